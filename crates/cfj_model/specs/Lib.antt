@@ -1,0 +1,10 @@
+pub mod Characters
+pub mod FaultTexts
+pub mod Faults
+pub mod Grammar
+pub mod Lexemes
+pub mod Names
+pub mod Print
+pub mod ProductLines
+pub mod Roles
+pub mod Tokens

@@ -1,0 +1,26 @@
+//! Coloured Featherweight Java: the data of a product line, and the definitions that every contract cites.
+//!
+//! A product line is a feature model and a list of classes, parts of which may be marked with features. `specs/` says what its
+//! text is: characters and tokens with their places, the concrete syntax and what it stands for, the first fault of any other
+//! text, and the printed form.
+#![tactic(auto)]
+
+mod character;
+mod class;
+mod colors;
+mod fault;
+mod feature_model;
+mod items;
+mod name;
+mod project;
+mod text;
+
+pub use character::split_first;
+pub use class::{Class, Constructor, Field, Param, Sent};
+pub use colors::Colors;
+pub use fault::{FaultKind, LimitKind, ParseFault};
+pub use feature_model::FeatureModel;
+pub use items::Items;
+pub use name::{MOST_NAME_BYTES, Name, continues_word, is_identifier, is_reserved, starts_word};
+pub use project::Project;
+pub use text::Text;

@@ -1,0 +1,157 @@
+-- The machine that reads one token at a time: how it goes on, and the role that it gives each token.
+use Rattle.std.specs.Prelude.{◌≡◌, ℕ, Bool, true, false, ◌&&◌, if◌then◌else◌, List, [], ◌∷◌, ◌++◌, length, Option, Some, None}
+use Rattle.std.specs.List.{list_all}
+use Rattle.std.specs.Str.{bytes_eq}
+use Rattle.cfj_model.specs.declared.class.Field.{Field}
+use Rattle.cfj_model.specs.declared.class.Param.{Param}
+use Rattle.cfj_model.specs.declared.class.Sent.{Sent}
+use Rattle.cfj_model.specs.declared.class.Class.{Class}
+use Rattle.cfj_model.specs.declared.fault.FaultKind.{FaultKind}
+use Rattle.cfj_model.specs.declared.fault.FaultKind.TheVariants as fault
+use Rattle.cfj_model.specs.Names.{is_identifier}
+use Rattle.cfj_model.specs.Tokens.{Token, Id, ClassWord, ExtendsWord, SuperWord, ThisWord, OpenBrace, CloseBrace, OpenParen, CloseParen, Semicolon, Comma, Dot, Equals, End, is_reserved_word}
+use Rattle.cfj_model.specs.Roles.{Role, class_name, field_name, param_name, sent_name, assigned_name, used_name, plain}
+use Rattle.fj_parser.specs.declared.mode.Mode.{Mode}
+use Rattle.fj_parser.specs.declared.mode.Mode.TheVariants.{Start, AfterClass, AfterClassName, AfterExtends, AfterParent, InMembers, AfterType, AfterFieldName, InParams, AfterParamComma, AfterParamType, AfterParam, AfterParams, InBody, AfterSuper, InSends, AfterSendComma, AfterSend, AfterSends, InAssigns, AfterThis, AfterThisDot, AfterAssigned, AfterEquals, AfterSecondName, AfterCtor, AtEnd}
+
+-- The classes that are read, the class in hand, the type and the name that were read last, and the mode. What isn't in hand
+-- is empty.
+pub record State : Type 0 where
+  pub mode : Mode
+  pub classes : List Class
+  pub name : List ℕ
+  pub parent : List ℕ
+  pub fields : List Field
+  pub params : List Param
+  pub sends : List Sent
+  pub assigns : List Sent
+  pub of : List ℕ
+  pub last : List ℕ
+
+-- behind these classes
+abbrev pub behind : List Class → State
+behind classes = record { mode = Start; classes = classes; name = []; parent = []; fields = []; params = []; sends = []; assigns = []; of = []; last = [] }
+
+abbrev pub start : State
+start = behind []
+
+-- the state with another mode
+abbrev pub to : Mode → State → Option State
+to m s = Some (record s { mode = m })
+
+-- the field in hand
+abbrev pub field_of : State → Field
+field_of s = record { alt = 0; colors = 0; of = s.of; name = s.last }
+
+abbrev pub with_field : State → State
+with_field s = record s { mode = InMembers; fields = s.fields ++ field_of s ∷ []; of = []; last = [] }
+
+-- a parameter of the type in hand
+abbrev pub with_param : State → List ℕ → State
+with_param s w = record s { mode = AfterParam; params = s.params ++ record { slot = length s.params; colors = 0; of = s.of; name = w } ∷ []; of = [] }
+
+abbrev pub with_sent : State → List ℕ → State
+with_sent s w = record s { mode = AfterSend; sends = s.sends ++ record { slot = length s.sends; colors = 0; name = w } ∷ [] }
+
+abbrev pub with_assign : State → List ℕ → State
+with_assign s w = record s { mode = AfterAssigned; assigns = s.assigns ++ record { slot = length s.assigns; colors = 0; name = w } ∷ []; last = w }
+
+-- the class in hand
+abbrev pub class_of : State → Class
+class_of s = record { name = s.name; colors = 0; parent = s.parent; fields = s.fields; ctor = record { params = s.params; sends = s.sends; assigns = s.assigns } }
+
+abbrev pub step_in : Mode → State → Token → Option State
+step_in Start s ClassWord = to AfterClass s
+step_in Start s End = to AtEnd s
+step_in AfterClass s (Id w) = Some (record s { mode = AfterClassName; name = w })
+step_in AfterClassName s ExtendsWord = to AfterExtends s
+step_in AfterExtends s (Id w) = Some (record s { mode = AfterParent; parent = w })
+step_in AfterParent s OpenBrace = to InMembers s
+step_in InMembers s (Id w) = Some (record s { mode = AfterType; of = w })
+step_in AfterType s (Id w) = Some (record s { mode = AfterFieldName; last = w })
+step_in AfterType s OpenParen = if bytes_eq s.of s.name then Some (record s { mode = InParams; of = [] }) else None
+step_in AfterFieldName s Semicolon = Some (with_field s)
+step_in InParams s (Id w) = Some (record s { mode = AfterParamType; of = w })
+step_in InParams s CloseParen = to AfterParams s
+step_in AfterParamComma s (Id w) = Some (record s { mode = AfterParamType; of = w })
+step_in AfterParamType s (Id w) = Some (with_param s w)
+step_in AfterParam s Comma = to AfterParamComma s
+step_in AfterParam s CloseParen = to AfterParams s
+step_in AfterParams s OpenBrace = to InBody s
+step_in InBody s SuperWord = to AfterSuper s
+step_in AfterSuper s OpenParen = to InSends s
+step_in InSends s (Id w) = Some (with_sent s w)
+step_in InSends s CloseParen = to AfterSends s
+step_in AfterSendComma s (Id w) = Some (with_sent s w)
+step_in AfterSend s Comma = to AfterSendComma s
+step_in AfterSend s CloseParen = to AfterSends s
+step_in AfterSends s Semicolon = to InAssigns s
+step_in InAssigns s ThisWord = to AfterThis s
+step_in InAssigns s CloseBrace = to AfterCtor s
+step_in AfterThis s Dot = to AfterThisDot s
+step_in AfterThisDot s (Id w) = Some (with_assign s w)
+step_in AfterAssigned s Equals = to AfterEquals s
+step_in AfterEquals s (Id w) = if bytes_eq w s.last then Some (record s { mode = AfterSecondName; last = [] }) else None
+step_in AfterSecondName s Semicolon = to InAssigns s
+step_in AfterCtor s CloseBrace = Some (behind (s.classes ++ class_of s ∷ []))
+step_in _ s t = None
+
+-- the next state; none where the token can't go on
+abbrev pub step : State → Token → Option State
+step s t = step_in s.mode s t
+
+abbrev pub role_in : Mode → Token → Role
+role_in AfterClass (Id w) = class_name w
+role_in AfterType (Id w) = field_name w
+role_in AfterParamType (Id w) = param_name w
+role_in InSends (Id w) = sent_name w
+role_in AfterSendComma (Id w) = sent_name w
+role_in AfterThisDot (Id w) = assigned_name w
+role_in _ (Id w) = used_name w
+role_in _ t = plain
+
+-- the role of a token at this state
+abbrev pub role : State → Token → Role
+role s t = role_in s.mode t
+
+-- some identifier could stand next
+abbrev pub takes_name : Mode → Bool
+takes_name AfterClass = true
+takes_name AfterExtends = true
+takes_name InMembers = true
+takes_name AfterType = true
+takes_name InParams = true
+takes_name AfterParamComma = true
+takes_name AfterParamType = true
+takes_name InSends = true
+takes_name AfterSendComma = true
+takes_name AfterThisDot = true
+takes_name AfterEquals = true
+takes_name _ = false
+
+-- how a token that can't go on is named
+abbrev pub misplaced_kind : State → Token → FaultKind
+misplaced_kind s t = if is_reserved_word t && takes_name s.mode then fault.Reserved else fault.Unexpected
+
+-- what is reached, and the roles on the way
+abbrev pub Run : Type 0
+Run = Option State × List Role
+
+abbrev pub with_role : Role → Run → Run
+with_role r p = (p.0, r ∷ p.1)
+
+abbrev pub then_run : (State → Run) → Role → Option State → Run
+then_run f r None = (None, [])
+then_run f r (Some s) = with_role r (f s)
+
+unfoldable pub run : List Token → State → Run
+run [] s = (Some s, [])
+run (t ∷ ts) s = then_run (run ts) (role s t) (step s t)
+
+-- a token that a text can have: what is called an identifier is one
+abbrev pub is_read : Token → Bool
+is_read (Id w) = is_identifier w
+is_read _ = true
+
+abbrev pub are_read : List Token → Bool
+are_read = list_all is_read

@@ -1,0 +1,10 @@
+//! Reads the text of a project.
+//!
+//! The parser is a machine that takes one token a step and never looks ahead; beside it a tally keeps what has been met, and
+//! tells which limit or rule a token breaks. Its answer is the product line that the text stands for, or the text's first
+//! fault.
+#![tactic(auto)]
+
+mod mode;
+
+pub use mode::Mode;

@@ -1,0 +1,58 @@
+/// What was read last, which says what may follow.
+#[derive(Clone, Copy, Debug, PartialEq, Eq)]
+pub enum Mode {
+    /// Nothing, or a class.
+    Start,
+    /// `class`.
+    AfterClass,
+    /// The name of a class.
+    AfterClassName,
+    /// `extends`.
+    AfterExtends,
+    /// The name of a superclass.
+    AfterParent,
+    /// The brace that opens a class, or a field.
+    InMembers,
+    /// The type of a field, or the name of the constructor.
+    AfterType,
+    /// The name of a field.
+    AfterFieldName,
+    /// The bracket that opens the parameters.
+    InParams,
+    /// A comma between parameters.
+    AfterParamComma,
+    /// The type of a parameter.
+    AfterParamType,
+    /// The name of a parameter.
+    AfterParam,
+    /// The bracket that closes the parameters.
+    AfterParams,
+    /// The brace that opens the constructor's body.
+    InBody,
+    /// `super`.
+    AfterSuper,
+    /// The bracket that opens the sent names.
+    InSends,
+    /// A comma between sent names.
+    AfterSendComma,
+    /// A sent name.
+    AfterSend,
+    /// The bracket that closes the sent names.
+    AfterSends,
+    /// The call of `super`, or an assignment.
+    InAssigns,
+    /// `this`.
+    AfterThis,
+    /// The dot behind `this`.
+    AfterThisDot,
+    /// The field that is assigned.
+    AfterAssigned,
+    /// The sign between the two names of an assignment.
+    AfterEquals,
+    /// The second name of an assignment.
+    AfterSecondName,
+    /// The constructor.
+    AfterCtor,
+    /// The whole text.
+    AtEnd,
+}

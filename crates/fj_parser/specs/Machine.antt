@@ -1,5 +1,5 @@
 -- The machine that reads one token at a time: how it goes on, and the role that it gives each token.
-use Rattle.std.specs.Prelude.{◌≡◌, ℕ, Bool, true, false, ◌&&◌, if◌then◌else◌, List, [], ◌∷◌, ◌++◌, length, Option, Some, None}
+use Rattle.std.specs.Prelude.{◌≡◌, ℕ, Bool, true, false, ◌&&◌, if◌then◌else◌, List, [], ◌∷◌, ◌++◌, length, codes, Option, Some, None}
 use Rattle.std.specs.List.{list_all}
 use Rattle.std.specs.Str.{bytes_eq}
 use Rattle.cfj_model.specs.declared.class.Field.{Field}
@@ -14,8 +14,12 @@ use Rattle.cfj_model.specs.Roles.{Role, class_name, field_name, param_name, sent
 use Rattle.fj_parser.specs.declared.mode.Mode.{Mode}
 use Rattle.fj_parser.specs.declared.mode.Mode.TheVariants.{Start, AfterClass, AfterClassName, AfterExtends, AfterParent, InMembers, AfterType, AfterFieldName, InParams, AfterParamComma, AfterParamType, AfterParam, AfterParams, InBody, AfterSuper, InSends, AfterSendComma, AfterSend, AfterSends, InAssigns, AfterThis, AfterThisDot, AfterAssigned, AfterEquals, AfterSecondName, AfterCtor, AtEnd}
 
--- The classes that are read, the class in hand, the type and the name that were read last, and the mode. What isn't in hand
--- is empty.
+-- what stands for a name that isn't in hand
+abbrev pub no_name : List ℕ
+no_name = codes "this"
+
+-- The classes that are read, the class in hand, the type and the name that were read last, and the mode. A list that isn't in
+-- hand is empty, and a name is `no_name`.
 pub record State : Type 0 where
   pub mode : Mode
   pub classes : List Class
@@ -30,7 +34,7 @@ pub record State : Type 0 where
 
 -- behind these classes
 abbrev pub behind : List Class → State
-behind classes = record { mode = Start; classes = classes; name = []; parent = []; fields = []; params = []; sends = []; assigns = []; of = []; last = [] }
+behind classes = record { mode = Start; classes = classes; name = no_name; parent = no_name; fields = []; params = []; sends = []; assigns = []; of = no_name; last = no_name }
 
 abbrev pub start : State
 start = behind []
@@ -44,11 +48,11 @@ abbrev pub field_of : State → Field
 field_of s = record { alt = 0; colors = 0; of = s.of; name = s.last }
 
 abbrev pub with_field : State → State
-with_field s = record s { mode = InMembers; fields = s.fields ++ field_of s ∷ []; of = []; last = [] }
+with_field s = record s { mode = InMembers; fields = s.fields ++ field_of s ∷ []; of = no_name; last = no_name }
 
 -- a parameter of the type in hand
 abbrev pub with_param : State → List ℕ → State
-with_param s w = record s { mode = AfterParam; params = s.params ++ record { slot = length s.params; colors = 0; of = s.of; name = w } ∷ []; of = [] }
+with_param s w = record s { mode = AfterParam; params = s.params ++ record { slot = length s.params; colors = 0; of = s.of; name = w } ∷ []; of = no_name }
 
 abbrev pub with_sent : State → List ℕ → State
 with_sent s w = record s { mode = AfterSend; sends = s.sends ++ record { slot = length s.sends; colors = 0; name = w } ∷ [] }
@@ -69,7 +73,7 @@ step_in AfterExtends s (Id w) = Some (record s { mode = AfterParent; parent = w 
 step_in AfterParent s OpenBrace = to InMembers s
 step_in InMembers s (Id w) = Some (record s { mode = AfterType; of = w })
 step_in AfterType s (Id w) = Some (record s { mode = AfterFieldName; last = w })
-step_in AfterType s OpenParen = if bytes_eq s.of s.name then Some (record s { mode = InParams; of = [] }) else None
+step_in AfterType s OpenParen = if bytes_eq s.of s.name then Some (record s { mode = InParams; of = no_name }) else None
 step_in AfterFieldName s Semicolon = Some (with_field s)
 step_in InParams s (Id w) = Some (record s { mode = AfterParamType; of = w })
 step_in InParams s CloseParen = to AfterParams s
@@ -91,7 +95,7 @@ step_in InAssigns s CloseBrace = to AfterCtor s
 step_in AfterThis s Dot = to AfterThisDot s
 step_in AfterThisDot s (Id w) = Some (with_assign s w)
 step_in AfterAssigned s Equals = to AfterEquals s
-step_in AfterEquals s (Id w) = if bytes_eq w s.last then Some (record s { mode = AfterSecondName; last = [] }) else None
+step_in AfterEquals s (Id w) = if bytes_eq w s.last then Some (record s { mode = AfterSecondName; last = no_name }) else None
 step_in AfterSecondName s Semicolon = to InAssigns s
 step_in AfterCtor s CloseBrace = Some (behind (s.classes ++ class_of s ∷ []))
 step_in _ s t = None

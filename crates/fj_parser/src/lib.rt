@@ -5,6 +5,10 @@
 //! fault.
 #![tactic(auto)]
 
+mod met;
 mod mode;
+mod role;
+mod symbol;
+mod tally;
 
 pub use mode::Mode;

@@ -1,0 +1,107 @@
+ghost use Rattle.std.specs.Prelude.{◌≡◌, true, false};
+ghost use Rattle.cfj_model.specs.Names.{is_reserved};
+ghost use Rattle.cfj_model.specs.Tokens.{mark_token, word_token};
+ghost use Rattle.fj_parser.specs.Views.{rare_token, symbol_seen};
+
+/// A token as the grammar knows it.
+#[derive(Clone, Copy)]
+pub enum Symbol<'a> {
+    Id(&'a str),
+    Class,
+    Extends,
+    Super,
+    This,
+    New,
+    Return,
+    True,
+    False,
+    /// A reserved word that the grammar doesn't use.
+    Reserved,
+    OpenBrace,
+    CloseBrace,
+    OpenParen,
+    CloseParen,
+    Semicolon,
+    Comma,
+    Dot,
+    Equals,
+    At,
+    Bang,
+    Ampersand,
+    Bar,
+    Arrow,
+    DoubleArrow,
+    /// The end of the text.
+    End,
+}
+
+/// What a reserved word is.
+#[tactic(auto, unfolding(cfj_model::specs::Tokens::word_token))]
+pub fn reserved_symbol(word: &str) -> Symbol<'static>
+    requires { is_reserved word.now ≡ true }
+    ensures { symbol_seen result ≡ word_token word.now }
+{
+    if word == "class" {
+        Symbol::Class
+    } else if word == "extends" {
+        Symbol::Extends
+    } else if word == "super" {
+        Symbol::Super
+    } else if word == "this" {
+        Symbol::This
+    } else if word == "new" {
+        Symbol::New
+    } else if word == "return" {
+        Symbol::Return
+    } else if word == "true" {
+        Symbol::True
+    } else if word == "false" {
+        Symbol::False
+    } else {
+        Symbol::Reserved
+    }
+}
+
+/// What a punctuation text is.
+#[tactic(auto, unfolding(cfj_model::specs::Tokens::mark_token))]
+pub fn mark_symbol(mark: &str) -> Symbol<'static>
+    ensures { symbol_seen result ≡ mark_token mark.now }
+{
+    if mark == "{" {
+        Symbol::OpenBrace
+    } else if mark == "}" {
+        Symbol::CloseBrace
+    } else if mark == "(" {
+        Symbol::OpenParen
+    } else if mark == ")" {
+        Symbol::CloseParen
+    } else if mark == ";" {
+        Symbol::Semicolon
+    } else if mark == "," {
+        Symbol::Comma
+    } else if mark == "." {
+        Symbol::Dot
+    } else if mark == "=" {
+        Symbol::Equals
+    } else if mark == "@" {
+        Symbol::At
+    } else {
+        rare_symbol(mark)
+    }
+}
+
+fn rare_symbol(mark: &str) -> Symbol<'static>
+    ensures { symbol_seen result ≡ rare_token mark.now }
+{
+    if mark == "!" {
+        Symbol::Bang
+    } else if mark == "&" {
+        Symbol::Ampersand
+    } else if mark == "|" {
+        Symbol::Bar
+    } else if mark == "->" {
+        Symbol::Arrow
+    } else {
+        Symbol::DoubleArrow
+    }
+}

@@ -4,7 +4,7 @@ use Rattle.std.specs.Str.{bytes_eq}
 use Rattle.cfj_model.specs.declared.fault.FaultKind.{FaultKind}
 use Rattle.cfj_model.specs.declared.fault.FaultKind.TheVariants.{Limit}
 use Rattle.cfj_model.specs.declared.fault.LimitKind.TheVariants as limit
-use Rattle.cfj_model.specs.Names.{is_identifier}
+use Rattle.cfj_model.specs.Names.{is_identifier, is_name}
 use Rattle.cfj_model.specs.ProductLines.{most_in_ctor, most_size}
 use Rattle.cfj_model.specs.Tokens as token
 use Rattle.cfj_model.specs.Roles as role
@@ -80,3 +80,8 @@ broken_by_size t = role.first_of ((nat_le most_size t.size, Limit limit.Size) �
 -- the tests of a name in a list of a constructor that has so many before it
 abbrev pub broken_in_list : role.Tally → ℕ → List ℕ → Option FaultKind
 broken_in_list t before w = role.first_of ((role.is_long w, Limit limit.Name) ∷ ((nat_le most_in_ctor before, Limit limit.Ctor) ∷ ((nat_le most_size t.size, Limit limit.Size) ∷ [])))
+
+-- what is called an identifier may be a name
+abbrev pub is_name_token : token.Token → Bool
+is_name_token (token.Id w) = is_name w
+is_name_token _ = true

@@ -5,6 +5,7 @@
 //! fault.
 #![tactic(auto)]
 
+mod machine;
 mod met;
 mod mode;
 mod role;

@@ -1,0 +1,36 @@
+-- The machine's own type, as the state that it stands for.
+use Rattle.std.specs.Prelude.{◌≡◌, ℕ, ◌^◌, ◌<◌, Bool, true, false, length, Some, None}
+use Rattle.cfj_model.specs.Tokens.{Token}
+use Rattle.fj_parser.specs.declared.mode.Mode.{Mode}
+use Rattle.fj_parser.specs.declared.machine.Machine.{Machine}
+use Rattle.fj_parser.specs.Machine.{State, step_in}
+
+abbrev pub machine_seen : Machine → State
+machine_seen m =
+    record {
+      mode = m.mode;
+      classes = m.classes.items;
+      name = m.name.now;
+      parent = m.parent.now;
+      fields = m.fields.items;
+      params = m.params.items;
+      sends = m.sends.items;
+      assigns = m.assigns.items;
+      of = m.of.now;
+      last = m.last.now;
+    }
+
+-- the machine went on in this mode, or could not
+abbrev pub GoesIn : Mode → Bool → State → Token → State → Type 0
+GoesIn mode true old t new = step_in mode old t ≡ Some new
+GoesIn mode false old t new = step_in mode old t ≡ None
+
+-- one more item has a slot
+pub record IsRoomy (s : State) : Type 0 where
+  pub params : length s.params < 2 ^ 16
+  pub sends : length s.sends < 2 ^ 16
+  pub assigns : length s.assigns < 2 ^ 16
+
+-- the machine went on, or could not
+abbrev pub Goes : Bool → State → Token → State → Type 0
+Goes went old = GoesIn old.mode went old

@@ -1,3 +1,4 @@
+pub mod Accepting
 pub mod Machine
 pub mod MachineViews
 pub mod Views

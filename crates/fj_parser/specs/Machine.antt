@@ -104,15 +104,19 @@ step_in _ s t = None
 abbrev pub step : State → Token → Option State
 step s t = step_in s.mode s t
 
+-- what an identifier is in a mode
+abbrev pub name_role : Mode → List ℕ → Role
+name_role AfterClass w = class_name w
+name_role AfterType w = field_name w
+name_role AfterParamType w = param_name w
+name_role InSends w = sent_name w
+name_role AfterSendComma w = sent_name w
+name_role AfterThisDot w = assigned_name w
+name_role _ w = used_name w
+
 abbrev pub role_in : Mode → Token → Role
-role_in AfterClass (Id w) = class_name w
-role_in AfterType (Id w) = field_name w
-role_in AfterParamType (Id w) = param_name w
-role_in InSends (Id w) = sent_name w
-role_in AfterSendComma (Id w) = sent_name w
-role_in AfterThisDot (Id w) = assigned_name w
-role_in _ (Id w) = used_name w
-role_in _ t = plain
+role_in m (Id w) = name_role m w
+role_in m _ = plain
 
 -- the role of a token at this state
 abbrev pub role : State → Token → Role

@@ -5,6 +5,7 @@
 //! fault.
 #![tactic(auto)]
 
+mod accept;
 mod machine;
 mod met;
 mod mode;

@@ -1,4 +1,4 @@
-ghost use Rattle.std.specs.Prelude.{◌≡◌, ℕ, ◌^◌, ◌<◌, [], ◌∷◌, ◌++◌, true, IfOk, OnOk, IsTrue, length};
+ghost use Rattle.std.specs.Prelude.{◌≡◌, ℕ, ◌^◌, ◌<◌, [], ◌∷◌, ◌++◌, true, IfOk, OnOk, IsTrue, is_some, length};
 ghost use Rattle.cfj_model.specs.Names.{is_name};
 ghost use Rattle.fj_parser.specs.Machine as spec;
 ghost use Rattle.cfj_model.specs.Tokens.{Id, OpenParen};
@@ -533,6 +533,16 @@ impl<'a> Machine<'a> {
         self.last = NO_NAME;
         self.mode = Mode::Start;
         Ok(())
+    }
+
+    /// Whether an identifier could stand next.
+    pub fn takes(&self, name: &str) -> bool
+        ensures { result ≡ is_some (spec.step (machine_seen self.now) (Id name.now)) }
+    {
+        match self.mode {
+            Mode::AfterEquals => name == self.last,
+            mode => mode.takes_name(),
+        }
     }
 
     /// Goes on by one token; `false` where no text of the grammar can.

@@ -1,3 +1,6 @@
+ghost use Rattle.std.specs.Prelude.{◌≡◌};
+ghost use Rattle.fj_parser.specs.Machine.{takes_name};
+
 /// What was read last, which says what may follow.
 #[derive(Clone, Copy, Debug, PartialEq, Eq)]
 pub enum Mode {
@@ -55,4 +58,26 @@ pub enum Mode {
     AfterCtor,
     /// The whole text.
     AtEnd,
+}
+
+impl Mode {
+    /// Whether some identifier could stand next.
+    pub fn takes_name(self) -> bool
+        ensures { result ≡ takes_name self }
+    {
+        match self {
+            Mode::AfterClass
+            | Mode::AfterExtends
+            | Mode::InMembers
+            | Mode::AfterType
+            | Mode::InParams
+            | Mode::AfterParamComma
+            | Mode::AfterParamType
+            | Mode::InSends
+            | Mode::AfterSendComma
+            | Mode::AfterThisDot
+            | Mode::AfterEquals => true,
+            _ => false,
+        }
+    }
 }

@@ -1,3 +1,10 @@
+ghost use Rattle.std.specs.Prelude.{◌≡◌};
+ghost use Rattle.fj_parser.specs.Machine.{name_role, role_in};
+ghost use Rattle.fj_parser.specs.Views.{role_seen, symbol_seen};
+
+use crate::mode::Mode;
+use crate::symbol::Symbol;
+
 /// What a token is in its text; the names are those that a rule or a limit is about.
 #[derive(Clone, Copy)]
 pub enum Role<'a> {
@@ -15,4 +22,28 @@ pub enum Role<'a> {
     UsedName(&'a str),
     /// No identifier.
     Plain,
+}
+
+/// What an identifier is behind what was read last.
+fn name_role<'a>(mode: Mode, name: &'a str) -> Role<'a>
+    ensures { role_seen result ≡ name_role mode name.now }
+{
+    match mode {
+        Mode::AfterClass => Role::ClassName(name),
+        Mode::AfterType => Role::FieldName(name),
+        Mode::AfterParamType => Role::ParamName(name),
+        Mode::InSends | Mode::AfterSendComma => Role::SentName(name),
+        Mode::AfterThisDot => Role::AssignedName(name),
+        _ => Role::UsedName(name),
+    }
+}
+
+/// What a token is behind what was read last.
+pub fn role_of<'a>(mode: Mode, symbol: Symbol<'a>) -> Role<'a>
+    ensures { role_seen result ≡ role_in mode (symbol_seen symbol.entry) }
+{
+    match symbol {
+        Symbol::Id(name) => name_role(mode, name),
+        _ => Role::Plain,
+    }
 }

@@ -1,6 +1,6 @@
 ghost use Rattle.std.specs.Prelude.{◌≡◌, true, false};
 ghost use Rattle.cfj_model.specs.Names.{is_reserved};
-ghost use Rattle.cfj_model.specs.Tokens.{mark_token, word_token};
+ghost use Rattle.cfj_model.specs.Tokens.{is_reserved_word, mark_token, word_token};
 ghost use Rattle.fj_parser.specs.Views.{rare_token, symbol_seen};
 
 /// A token as the grammar knows it.
@@ -33,6 +33,26 @@ pub enum Symbol<'a> {
     DoubleArrow,
     /// The end of the text.
     End,
+}
+
+impl<'a> Symbol<'a> {
+    /// Whether it is a reserved word.
+    pub fn is_reserved_word(self) -> bool
+        ensures { result ≡ is_reserved_word (symbol_seen self.entry) }
+    {
+        match self {
+            Symbol::Class
+            | Symbol::Extends
+            | Symbol::Super
+            | Symbol::This
+            | Symbol::New
+            | Symbol::Return
+            | Symbol::True
+            | Symbol::False
+            | Symbol::Reserved => true,
+            _ => false,
+        }
+    }
 }
 
 /// What a reserved word is.

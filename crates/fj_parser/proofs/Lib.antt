@@ -1,2 +1,9 @@
 pub mod Accepted
+pub mod Complete
+pub mod Counts
+pub mod FirstFault
+pub mod Kept
+pub mod Law
 pub mod MetNames
+pub mod Sound
+pub mod Texts

@@ -15,11 +15,11 @@ use Rattle.fj_parser.specs.declared.mode.Mode.{Mode}
 use Rattle.fj_parser.specs.declared.mode.Mode.TheVariants.{Start, AfterClass, AfterClassName, AfterExtends, AfterParent, InMembers, AfterType, AfterFieldName, InParams, AfterParamComma, AfterParamType, AfterParam, AfterParams, InBody, AfterSuper, InSends, AfterSendComma, AfterSend, AfterSends, InAssigns, AfterThis, AfterThisDot, AfterAssigned, AfterEquals, AfterSecondName, AfterCtor, AtEnd}
 
 -- what stands for a name that isn't in hand
-abbrev pub no_name : List ℕ
-no_name = codes "this"
+abbrev pub unnamed : List ℕ
+unnamed = codes "this"
 
 -- The classes that are read, the class in hand, the type and the name that were read last, and the mode. A list that isn't in
--- hand is empty, and a name is `no_name`.
+-- hand is empty, and a name is `unnamed`.
 pub record State : Type 0 where
   pub mode : Mode
   pub classes : List Class
@@ -34,7 +34,7 @@ pub record State : Type 0 where
 
 -- behind these classes
 abbrev pub behind : List Class → State
-behind classes = record { mode = Start; classes = classes; name = no_name; parent = no_name; fields = []; params = []; sends = []; assigns = []; of = no_name; last = no_name }
+behind classes = record { mode = Start; classes = classes; name = unnamed; parent = unnamed; fields = []; params = []; sends = []; assigns = []; of = unnamed; last = unnamed }
 
 abbrev pub start : State
 start = behind []
@@ -48,11 +48,11 @@ abbrev pub field_of : State → Field
 field_of s = record { alt = 0; colors = 0; of = s.of; name = s.last }
 
 abbrev pub with_field : State → State
-with_field s = record s { mode = InMembers; fields = s.fields ++ field_of s ∷ []; of = no_name; last = no_name }
+with_field s = record s { mode = InMembers; fields = s.fields ++ field_of s ∷ []; of = unnamed; last = unnamed }
 
 -- a parameter of the type in hand
 abbrev pub with_param : State → List ℕ → State
-with_param s w = record s { mode = AfterParam; params = s.params ++ record { slot = length s.params; colors = 0; of = s.of; name = w } ∷ []; of = no_name }
+with_param s w = record s { mode = AfterParam; params = s.params ++ record { slot = length s.params; colors = 0; of = s.of; name = w } ∷ []; of = unnamed }
 
 abbrev pub with_sent : State → List ℕ → State
 with_sent s w = record s { mode = AfterSend; sends = s.sends ++ record { slot = length s.sends; colors = 0; name = w } ∷ [] }
@@ -73,7 +73,7 @@ step_in AfterExtends s (Id w) = Some (record s { mode = AfterParent; parent = w 
 step_in AfterParent s OpenBrace = to InMembers s
 step_in InMembers s (Id w) = Some (record s { mode = AfterType; of = w })
 step_in AfterType s (Id w) = Some (record s { mode = AfterFieldName; last = w })
-step_in AfterType s OpenParen = if bytes_eq s.of s.name then Some (record s { mode = InParams; of = no_name }) else None
+step_in AfterType s OpenParen = if bytes_eq s.of s.name then Some (record s { mode = InParams; of = unnamed }) else None
 step_in AfterFieldName s Semicolon = Some (with_field s)
 step_in InParams s (Id w) = Some (record s { mode = AfterParamType; of = w })
 step_in InParams s CloseParen = to AfterParams s
@@ -95,7 +95,7 @@ step_in InAssigns s CloseBrace = to AfterCtor s
 step_in AfterThis s Dot = to AfterThisDot s
 step_in AfterThisDot s (Id w) = Some (with_assign s w)
 step_in AfterAssigned s Equals = to AfterEquals s
-step_in AfterEquals s (Id w) = if bytes_eq w s.last then Some (record s { mode = AfterSecondName; last = no_name }) else None
+step_in AfterEquals s (Id w) = if bytes_eq w s.last then Some (record s { mode = AfterSecondName; last = unnamed }) else None
 step_in AfterSecondName s Semicolon = to InAssigns s
 step_in AfterCtor s CloseBrace = Some (behind (s.classes ++ class_of s ∷ []))
 step_in _ s t = None

@@ -1,0 +1,371 @@
+-- The laws of the machine: what it has read begins a text; where it is stuck, no text goes on; and how a misplaced token is named.
+use Rattle.std.proofs.Common.{◌≡◌, ℕ, suc, Bool, true, false, ◌&&◌, ◌||◌, if◌then◌else◌, List, [], ◌∷◌, ◌++◌, length, map, codes, Option, Some, None, refl, sym, ◌∙◌, ap, subst, arith}
+use Rattle.std.specs.Str.{chars, bytes_eq}
+use Rattle.cfj_model.specs.Names.{is_identifier, is_reserved}
+use Rattle.cfj_model.specs.Tokens.{Token, Id, ClassWord, ExtendsWord, SuperWord, ThisWord, OpenBrace, CloseBrace, OpenParen, CloseParen, Semicolon, Comma, Dot, Equals, End, is_reserved_word}
+use Rattle.cfj_model.specs.Grammar.{Tree, spell, value_class}
+use Rattle.cfj_model.specs.Roles.{Role, used_name, plain, roles}
+use Rattle.cfj_model.specs.declared.fault.FaultKind.TheVariants as fault
+use Rattle.cfj_model.specs.Faults.{Begins, CanGoOn, IsMisplaced, reserved, other, no_name}
+use Rattle.fj_parser.specs.declared.mode.Mode.{Mode}
+use Rattle.fj_parser.specs.declared.mode.Mode.TheVariants.{Start, AfterClass, AfterClassName, AfterExtends, AfterParent, InMembers, AfterType, AfterFieldName, InParams, AfterParamComma, AfterParamType, AfterParam, AfterParams, InBody, AfterSuper, InSends, AfterSendComma, AfterSend, AfterSends, InAssigns, AfterThis, AfterThisDot, AfterAssigned, AfterEquals, AfterSecondName, AfterCtor, AtEnd}
+use Rattle.fj_parser.specs.Machine.{unnamed, State, behind, start, step_in, step, role, with_field, takes_name, misplaced_kind, Run, with_role, then_run, run, is_read, are_read}
+pub use Rattle.fj_parser.proofs.Complete.{text_runs, classes_run}
+use Rattle.fj_parser.proofs.Complete.{same_name}
+use Rattle.fj_parser.proofs.Sound.{Tail, no_end, an_end, is_whole_in, is_whole, text_of}
+
+-- ---- a run in two parts
+
+-- a run over more tokens
+abbrev pub on_from : List Token → Run → Run
+on_from b (None, rs) = (None, rs)
+on_from b (Some s, rs) = ((run b s).0, rs ++ (run b s).1)
+
+role_on : (r : Role) (b : List Token) (p : Run) → with_role r (on_from b p) ≡ on_from b (with_role r p)
+role_on r b (None, rs) = refl
+role_on r b (Some s, rs) = refl
+
+pub run_append : (a b : List Token) (s : State) → run (a ++ b) s ≡ on_from b (run a s)
+unfolding run
+run_append [] b s = refl
+run_append (t ∷ a) b s = go (λ n. run_append a b n) (role s t) (step s t)
+  where
+    go : ((n : State) → run (a ++ b) n ≡ on_from b (run a n)) → (r : Role) (o : Option State) → then_run (run (a ++ b)) r o ≡ on_from b (then_run (run a) r o)
+    go ih r None = refl
+    go ih r (Some n) = ap (with_role r) (ih n) ∙ role_on r b (run a n)
+
+-- one more token
+pub run_more : (front : List Token) (t : Token) (s n : State) (rs : List Role) → run front start ≡ (Some s, rs) → step s t ≡ Some n → run (front ++ t ∷ []) start ≡ (Some n, rs ++ role s t ∷ [])
+unfolding run
+run_more front t s n rs h goes =
+    run_append front (t ∷ []) start ∙ ap (on_from (t ∷ [])) h ∙ ap (λ o. ((then_run (run []) (role s t) o).0, rs ++ (then_run (run []) (role s t) o).1)) goes
+
+-- a run that goes on gives each token a role
+run_long : (ts : List Token) (s n : State) → (run ts s).0 ≡ Some n → length (run ts s).1 ≡ length ts
+unfolding run
+run_long [] s n h = refl
+run_long (t ∷ ts) s n h = go (λ x e. run_long ts x n e) (role s t) (step s t) h
+  where
+    go : ((x : State) → (run ts x).0 ≡ Some n → length (run ts x).1 ≡ length ts) → (r : Role) (o : Option State) → (then_run (run ts) r o).0 ≡ Some n → length (then_run (run ts) r o).1 ≡ suc (length ts)
+    go ih r None h = absurd (let no : ⊥ = cc h in no)
+    go ih r (Some x) h = ap suc (ih x h)
+
+-- ---- every state can be completed
+
+-- a mode is reached
+abbrev Reaches : Mode → Option State → Type 0
+Reaches m None = ⊥
+Reaches m (Some n) = n.mode ≡ m
+
+-- a test that holds lets the run go on
+let_through : (b : Bool) (f : State → Run) (r : Role) (n : State) → b ≡ true → Reaches AtEnd (f n).0 → Reaches AtEnd (then_run f r (if b then Some n else None)).0
+let_through true f r n e h = h
+let_through false f r n e h = absurd (let no : ⊥ = cc e in no)
+
+-- The shortest ends of a text: from the assignments, from behind the second name of one, from the second name, from the sent
+-- names, from the body, from the parameters, from the constructor of a class, and from the class's brace.
+assigns_end : List Token
+assigns_end = CloseBrace ∷ (CloseBrace ∷ (End ∷ []))
+
+second_end : List ℕ → List Token
+second_end w = Id w ∷ (Semicolon ∷ assigns_end)
+
+sends_end : List Token
+sends_end = CloseParen ∷ (Semicolon ∷ assigns_end)
+
+body_end : List Token
+body_end = OpenBrace ∷ (SuperWord ∷ (OpenParen ∷ sends_end))
+
+params_end : List Token
+params_end = CloseParen ∷ body_end
+
+ctor_end : List ℕ → List Token
+ctor_end w = Id w ∷ (OpenParen ∷ params_end)
+
+parent_end : List ℕ → List Token
+parent_end w = Id [] ∷ (OpenBrace ∷ ctor_end w)
+
+-- tokens with which a text can end from a state
+closing : Mode → State → List Token
+closing Start s = End ∷ []
+closing AfterClass s = Id [] ∷ (ExtendsWord ∷ parent_end [])
+closing AfterClassName s = ExtendsWord ∷ parent_end s.name
+closing AfterExtends s = parent_end s.name
+closing AfterParent s = OpenBrace ∷ ctor_end s.name
+closing InMembers s = ctor_end s.name
+closing AfterType s = Id [] ∷ (Semicolon ∷ ctor_end s.name)
+closing AfterFieldName s = Semicolon ∷ ctor_end s.name
+closing InParams s = params_end
+closing AfterParamComma s = Id [] ∷ (Id [] ∷ params_end)
+closing AfterParamType s = Id [] ∷ params_end
+closing AfterParam s = params_end
+closing AfterParams s = body_end
+closing InBody s = SuperWord ∷ (OpenParen ∷ sends_end)
+closing AfterSuper s = OpenParen ∷ sends_end
+closing InSends s = sends_end
+closing AfterSendComma s = Id [] ∷ sends_end
+closing AfterSend s = sends_end
+closing AfterSends s = Semicolon ∷ assigns_end
+closing InAssigns s = assigns_end
+closing AfterThis s = Dot ∷ (Id [] ∷ (Equals ∷ second_end []))
+closing AfterThisDot s = Id [] ∷ (Equals ∷ second_end [])
+closing AfterAssigned s = Equals ∷ second_end s.last
+closing AfterEquals s = second_end s.last
+closing AfterSecondName s = Semicolon ∷ assigns_end
+closing AfterCtor s = CloseBrace ∷ (End ∷ [])
+closing AtEnd s = []
+
+ctor_closes : (s : State) → Reaches AtEnd (run (ctor_end s.name) (record s { mode = InMembers })).0
+unfolding run ctor_end params_end body_end sends_end assigns_end
+ctor_closes s = let_through (bytes_eq s.name s.name) (run params_end) plain (record s { mode = InParams; of = unnamed }) (same_name s.name) refl
+
+second_closes : (s : State) → Reaches AtEnd (run (second_end s.last) (record s { mode = AfterEquals })).0
+unfolding run second_end assigns_end
+second_closes s = let_through (bytes_eq s.last s.last) (run (Semicolon ∷ assigns_end)) (used_name s.last) (record s { mode = AfterSecondName; last = unnamed }) (same_name s.last) refl
+
+closes : (m : Mode) (s : State) → Reaches AtEnd (run (closing m s) (record s { mode = m })).0
+unfolding run closing parent_end ctor_end params_end body_end sends_end second_end assigns_end
+closes AfterClass s = refl
+closes AfterClassName s = ctor_closes (record s { parent = [] })
+closes AfterExtends s = ctor_closes (record s { parent = [] })
+closes AfterParent s = ctor_closes s
+closes InMembers s = ctor_closes s
+closes AfterType s = ctor_closes (with_field (record s { last = [] }))
+closes AfterFieldName s = ctor_closes (with_field s)
+closes AfterAssigned s = second_closes s
+closes AfterEquals s = second_closes s
+closes _ s = refl
+
+-- ---- what is read to the end is a text
+
+reach_stops : (m : Mode) (o : Option State) → is_whole_in m ≡ true → Reaches m o → is_whole o ≡ true
+reach_stops m None e h = absurd h
+reach_stops m (Some n) e h = ap is_whole_in h ∙ e
+
+-- tokens that lead to the end
+closed_text : (ts : List Token) → Reaches AtEnd (run ts start).0 → (tree : Tree) × (ts ≡ spell tree (End ∷ []))
+closed_text ts h = let t = text_of ts (reach_stops AtEnd (run ts start).0 refl h) in go t.tree t.rest t.tail t.spelled
+  where
+    go : (tree : Tree) (rest : List Token) → Tail rest → ts ≡ spell tree rest → (tree : Tree) × (ts ≡ spell tree (End ∷ []))
+    go tree _ an_end is = (tree, is)
+    go tree _ no_end is =
+        let e : Start ≡ AtEnd = subst (λ (p : Run). Reaches AtEnd p.0) (ap (λ w. run w start) is ∙ classes_run tree) h in
+        absurd (let no : ⊥ = cc e in no)
+
+-- tokens that lead to where a class may follow
+open_text : (ts : List Token) → Reaches Start (run ts start).0 → (tree : Tree) × (ts ≡ spell tree [])
+open_text ts h = let t = text_of ts (reach_stops Start (run ts start).0 refl h) in go t.tree t.rest t.tail t.spelled
+  where
+    go : (tree : Tree) (rest : List Token) → Tail rest → ts ≡ spell tree rest → (tree : Tree) × (ts ≡ spell tree [])
+    go tree _ no_end is = (tree, is)
+    go tree _ an_end is =
+        let e : AtEnd ≡ Start = subst (λ (p : Run). Reaches Start p.0) (ap (λ w. run w start) is ∙ text_runs tree) h in
+        absurd (let no : ⊥ = cc e in no)
+
+-- only where a class may follow can the text end
+end_at_start : (m : Mode) (s n : State) → step_in m s End ≡ Some n → m ≡ Start
+end_at_start Start s n h = refl
+end_at_start _ s n h = absurd (let no : ⊥ = cc h in no)
+
+-- what is read to its end is the text of a tree
+pub record WholeText (front : List Token) (s : State) (rs : List Role) : Type 0 where
+  pub tree : Tree
+  pub spelled : front ≡ spell tree []
+  pub in_roles : rs ≡ roles tree []
+  pub valued : s.classes ≡ map value_class tree
+
+some_same : (s n : State) → Some s ≡ Some n → s ≡ n
+some_same s n e = cc
+
+pub text_read : (front : List Token) (s n : State) (rs : List Role) → run front start ≡ (Some s, rs) → step s End ≡ Some n → WholeText front s rs
+text_read front s n rs h ends =
+    let opens : Reaches Start (run front start).0 = subst (λ (p : Run). Reaches Start p.0) (sym h) (end_at_start s.mode s n ends) in
+    let t = open_text front opens in
+    let e : (Some s, rs) ≡ (Some (behind (map value_class t.0)), roles t.0 []) = sym h ∙ ap (λ w. run w start) t.1 ∙ classes_run t.0 in
+    let reached : Some s ≡ Some (behind (map value_class t.0)) = ap (λ (p : Run). p.0) e in
+    let same : s ≡ behind (map value_class t.0) = some_same s (behind (map value_class t.0)) reached in
+    record { tree = t.0; spelled = t.1; in_roles = ap (λ (p : Run). p.1) e; valued = ap (λ (x : State). x.classes) same }
+
+-- ---- what is read begins a text
+
+pub reads_begin : (front : List Token) (s : State) (rs : List Role) → run front start ≡ (Some s, rs) → Begins front rs
+reads_begin front s rs h =
+    let more = closing s.mode s in
+    let all : run (front ++ more) start ≡ ((run more s).0, rs ++ (run more s).1) = run_append front more start ∙ ap (on_from more) h in
+    let t = closed_text (front ++ more) (subst (λ (p : Run). Reaches AtEnd p.0) (sym all) (closes s.mode s)) in
+    record {
+      tree = t.0;
+      more = more;
+      others = (run more s).1;
+      text = sym t.1;
+      in_roles = ap (λ (p : Run). p.1) (sym (text_runs t.0) ∙ ap (λ w. run w start) (sym t.1) ∙ all);
+      each = ap length (ap (λ (p : Run). p.1) (sym h)) ∙ run_long front start s (ap (λ (p : Run). p.0) h);
+    }
+
+-- two lists of roles that begin one list, with the same length
+same_front : (a b x y : List Role) → length a ≡ length b → a ++ x ≡ b ++ y → a ≡ b
+same_front [] [] x y n e = refl
+same_front [] (r ∷ b) x y n e = absurd (omega arith)
+same_front (q ∷ a) [] x y n e = absurd (omega arith)
+same_front (q ∷ a) (r ∷ b) x y n e =
+    let first : q ≡ r = cc e in
+    let others : a ++ x ≡ b ++ y = cc e in
+    let rest : a ≡ b = same_front a b x y (omega arith) others in
+    cc
+
+pub begins_reads : (front : List Token) (rs : List Role) → Begins front rs → (s : State) × (run front start ≡ (Some s, rs))
+begins_reads front rs b = go (run front start) refl (sym (run_append front b.more start) ∙ ap (λ w. run w start) (sym b.text) ∙ text_runs b.tree)
+  where
+    go : (p : Run) → run front start ≡ p → on_from b.more p ≡ (Some (record (behind (map value_class b.tree)) { mode = AtEnd }), roles b.tree (plain ∷ [])) → (s : State) × (run front start ≡ (Some s, rs))
+    go (None, qs) e whole =
+        let o : None ≡ Some (record (behind (map value_class b.tree)) { mode = AtEnd }) = ap (λ (p : Run). p.0) whole in
+        absurd (let no : ⊥ = cc o in no)
+    go (Some s, qs) e whole =
+        let long : length qs ≡ length front = ap (λ (p : Run). length p.1) (sym e) ∙ run_long front start s (ap (λ (p : Run). p.0) e) in
+        let same : qs ≡ rs = same_front qs rs (run b.more s).1 b.others (long ∙ sym b.each) (ap (λ (p : Run). p.1) whole ∙ b.in_roles) in
+        (s, e ∙ ap (λ x. (Some s, x)) same)
+
+-- ---- where the machine is stuck, no text goes on
+
+pub cannot_go_on : (front : List Token) (t : Token) (s : State) (rs : List Role) → run front start ≡ (Some s, rs) → step s t ≡ None → CanGoOn (front ++ t ∷ []) → ⊥
+unfolding run
+cannot_go_on front t s rs h stuck g =
+    let b = g.1 in
+    let e : run ((front ++ t ∷ []) ++ b.more) start ≡ on_from b.more (on_from (t ∷ []) (Some s, rs)) =
+    run_append (front ++ t ∷ []) b.more start ∙ ap (on_from b.more) (run_append front (t ∷ []) start ∙ ap (on_from (t ∷ [])) h) in
+    let f : on_from b.more (on_from (t ∷ []) (Some s, rs)) ≡ (None, rs ++ []) = ap (λ o. on_from b.more ((then_run (run []) (role s t) o).0, rs ++ (then_run (run []) (role s t) o).1)) stuck in
+    let o : Some (record (behind (map value_class b.tree)) { mode = AtEnd }) ≡ None = ap (λ (p : Run). p.0) (sym (text_runs b.tree) ∙ ap (λ w. run w start) b.text ∙ e ∙ f) in
+    let no : ⊥ = cc o in no
+
+-- ---- how a misplaced token is named
+
+-- whatever the first tests say
+last_holds : (a : Bool) → ((a || false || true) && true && true) ≡ true
+last_holds true = refl
+last_holds false = refl
+
+-- some identifier
+some_name : List ℕ
+some_name = codes "$"
+
+some_name_is : is_identifier some_name ≡ true
+unfolding is_identifier is_reserved some_name chars
+some_name_is = search last_holds
+
+-- Where the name of an assigned field has been read, it is an identifier.
+abbrev Kept : Mode → State → Type 0
+Kept AfterAssigned s = is_identifier s.last ≡ true
+Kept AfterEquals s = is_identifier s.last ≡ true
+Kept _ s = Unit {0}
+
+abbrev KeptIn : Option State → Type 0
+KeptIn None = Unit {0}
+KeptIn (Some n) = Kept n.mode n
+
+kept_if : (b : Bool) (n : State) → Kept n.mode n → KeptIn (if b then Some n else None)
+kept_if true n k = k
+kept_if false n k = tt
+
+kept_step : (m : Mode) (s : State) (t : Token) → Kept m s → is_read t ≡ true → KeptIn (step_in m s t)
+kept_step Start s ClassWord k r = tt
+kept_step Start s End k r = tt
+kept_step AfterClass s (Id w) k r = tt
+kept_step AfterClassName s ExtendsWord k r = tt
+kept_step AfterExtends s (Id w) k r = tt
+kept_step AfterParent s OpenBrace k r = tt
+kept_step InMembers s (Id w) k r = tt
+kept_step AfterType s (Id w) k r = tt
+kept_step AfterType s OpenParen k r = kept_if (bytes_eq s.of s.name) (record s { mode = InParams; of = unnamed }) tt
+kept_step AfterFieldName s Semicolon k r = tt
+kept_step InParams s (Id w) k r = tt
+kept_step InParams s CloseParen k r = tt
+kept_step AfterParamComma s (Id w) k r = tt
+kept_step AfterParamType s (Id w) k r = tt
+kept_step AfterParam s Comma k r = tt
+kept_step AfterParam s CloseParen k r = tt
+kept_step AfterParams s OpenBrace k r = tt
+kept_step InBody s SuperWord k r = tt
+kept_step AfterSuper s OpenParen k r = tt
+kept_step InSends s (Id w) k r = tt
+kept_step InSends s CloseParen k r = tt
+kept_step AfterSendComma s (Id w) k r = tt
+kept_step AfterSend s Comma k r = tt
+kept_step AfterSend s CloseParen k r = tt
+kept_step AfterSends s Semicolon k r = tt
+kept_step InAssigns s ThisWord k r = tt
+kept_step InAssigns s CloseBrace k r = tt
+kept_step AfterThis s Dot k r = tt
+kept_step AfterThisDot s (Id w) k r = r
+kept_step AfterAssigned s Equals k r = k
+kept_step AfterEquals s (Id w) k r = kept_if (bytes_eq w s.last) (record s { mode = AfterSecondName; last = unnamed }) tt
+kept_step AfterSecondName s Semicolon k r = tt
+kept_step AfterCtor s CloseBrace k r = tt
+kept_step _ s t k r = tt
+
+both : (a b : Bool) → (a && b) ≡ true → (a ≡ true) × (b ≡ true)
+both true b e = (refl, e)
+both false b e = absurd (let no : ⊥ = cc e in no)
+
+kept_run : (ts : List Token) (s n : State) → Kept s.mode s → are_read ts ≡ true → (run ts s).0 ≡ Some n → Kept n.mode n
+unfolding run
+kept_run [] s n k r h = let same : s ≡ n = cc h in subst (λ (x : State). Kept x.mode x) same k
+kept_run (t ∷ ts) s n k r h =
+    let are = both (is_read t) (are_read ts) r in
+    go (λ x kept e. kept_run ts x n kept are.1 e) (role s t) (step s t) (kept_step s.mode s t k are.0) h
+  where
+    go : ((x : State) → Kept x.mode x → (run ts x).0 ≡ Some n → Kept n.mode n) → (q : Role) (o : Option State) → KeptIn o → (then_run (run ts) q o).0 ≡ Some n → Kept n.mode n
+    go ih q None kept h = absurd (let no : ⊥ = cc h in no)
+    go ih q (Some x) kept h = ih x kept h
+
+-- an identifier with which the machine goes on
+record GoesByName (m : Mode) (s : State) : Type 0 where
+  name : List ℕ
+  next : State
+  is : is_identifier name ≡ true
+  goes : step_in m s (Id name) ≡ Some next
+
+by_some : (m : Mode) (s n : State) → step_in m s (Id some_name) ≡ Some n → GoesByName m s
+by_some m s n e = record { name = some_name; next = n; is = some_name_is; goes = e }
+
+-- where some identifier could stand, one can
+name_goes : (m : Mode) (s : State) → Kept m s → takes_name m ≡ true → GoesByName m s
+name_goes AfterClass s k e = by_some AfterClass s _ refl
+name_goes AfterExtends s k e = by_some AfterExtends s _ refl
+name_goes InMembers s k e = by_some InMembers s _ refl
+name_goes AfterType s k e = by_some AfterType s _ refl
+name_goes InParams s k e = by_some InParams s _ refl
+name_goes AfterParamComma s k e = by_some AfterParamComma s _ refl
+name_goes AfterParamType s k e = by_some AfterParamType s _ refl
+name_goes InSends s k e = by_some InSends s _ refl
+name_goes AfterSendComma s k e = by_some AfterSendComma s _ refl
+name_goes AfterThisDot s k e = by_some AfterThisDot s _ refl
+name_goes AfterEquals s k e =
+    let n : State = record s { mode = AfterSecondName; last = unnamed } in
+    record { name = s.last; next = n; is = k; goes = ap (λ b. if b then Some n else None) (same_name s.last) }
+name_goes _ s k e = absurd (let no : ⊥ = cc e in no)
+
+-- elsewhere none can
+name_stops : (m : Mode) (s : State) (w : List ℕ) → takes_name m ≡ false → step_in m s (Id w) ≡ None
+name_stops AfterClass s w e = absurd (let no : ⊥ = cc e in no)
+name_stops AfterExtends s w e = absurd (let no : ⊥ = cc e in no)
+name_stops InMembers s w e = absurd (let no : ⊥ = cc e in no)
+name_stops AfterType s w e = absurd (let no : ⊥ = cc e in no)
+name_stops InParams s w e = absurd (let no : ⊥ = cc e in no)
+name_stops AfterParamComma s w e = absurd (let no : ⊥ = cc e in no)
+name_stops AfterParamType s w e = absurd (let no : ⊥ = cc e in no)
+name_stops InSends s w e = absurd (let no : ⊥ = cc e in no)
+name_stops AfterSendComma s w e = absurd (let no : ⊥ = cc e in no)
+name_stops AfterThisDot s w e = absurd (let no : ⊥ = cc e in no)
+name_stops AfterEquals s w e = absurd (let no : ⊥ = cc e in no)
+name_stops _ s w e = refl
+
+pub misplaced_as : (front : List Token) (t : Token) (s : State) (rs : List Role) → run front start ≡ (Some s, rs) → are_read front ≡ true → step s t ≡ None → IsMisplaced front t (misplaced_kind s t)
+misplaced_as front t s rs h read stuck = go (is_reserved_word t) (takes_name s.mode) refl refl
+  where
+    go : (a b : Bool) → is_reserved_word t ≡ a → takes_name s.mode ≡ b → IsMisplaced front t (if a && b then fault.Reserved else fault.Unexpected)
+    go false b word name = other word
+    go true false word name = no_name (λ w is can. cannot_go_on front (Id w) s rs h (name_stops s.mode s w name) can)
+    go true true word name =
+        let kept : Kept s.mode s = kept_run front start s tt read (ap (λ (p : Run). p.0) h) in
+        let n = name_goes s.mode s kept name in
+        reserved word n.name n.is (rs ++ role s (Id n.name) ∷ [], reads_begin (front ++ Id n.name ∷ []) n.next (rs ++ role s (Id n.name) ∷ []) (run_more front (Id n.name) s n.next rs h n.goes))

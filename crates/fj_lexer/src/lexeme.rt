@@ -39,8 +39,8 @@ fn behind(text: &str, ch: char) -> Option<&str>
     ensures { MatchOption result (begins ch (chars text.now) ≡ false) (λ rest. IsBehind text.now ch rest.now) }
 {
     match split_first(text) {
-        Some((first, rest)) => { if first == ch { Some(rest) } else { None } }
-        None => None,
+        Some((first, rest)) if first == ch => Some(rest),
+        _ => None,
     }
 }
 
@@ -63,10 +63,7 @@ fn mark_rest<'a>(first: char, after: &'a str) -> Option<&'a str>
     }
     match first {
         '-' => behind(after, '>'),
-        '<' => match behind(after, '-') {
-            Some(dash) => behind(dash, '>'),
-            None => None,
-        },
+        '<' => behind(behind(after, '-')?, '>'),
         _ => None,
     }
 }

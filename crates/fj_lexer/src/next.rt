@@ -10,7 +10,10 @@ use crate::token::{LexFault, Token};
 use cfj_model::split_first;
 
 impl<'a> Lexer<'a> {
-    /// The next token; `None` at the end of the text, and behind a fault.
+    /// The next token, or the fault that stands in its place; `None` at the end.
+    ///
+    /// A token is a slice of the source, its place is behind the tokens before it, and the lexer then stands right behind it.
+    /// Behind a fault nothing is left, so that every later call gives `None`.
     pub fn next(&mut self) -> Option<Result<Token<'a>, LexFault>>
         ensures given { Gives (next_lexeme (chars self.old.rest.now)) self.old self.new result }
         ensures same { self.new.text.now ≡ self.old.text.now }

@@ -10,63 +10,6 @@ use std::marker::Model;
 /// The most bytes in a name.
 pub const MOST_NAME_BYTES: usize = 255;
 
-const RESERVED: [&str; 54] = [
-    "abstract",
-    "assert",
-    "boolean",
-    "break",
-    "byte",
-    "case",
-    "catch",
-    "char",
-    "class",
-    "const",
-    "continue",
-    "default",
-    "do",
-    "double",
-    "else",
-    "enum",
-    "extends",
-    "final",
-    "finally",
-    "float",
-    "for",
-    "goto",
-    "if",
-    "implements",
-    "import",
-    "instanceof",
-    "int",
-    "interface",
-    "long",
-    "native",
-    "new",
-    "package",
-    "private",
-    "protected",
-    "public",
-    "return",
-    "short",
-    "static",
-    "strictfp",
-    "super",
-    "switch",
-    "synchronized",
-    "this",
-    "throw",
-    "throws",
-    "transient",
-    "try",
-    "void",
-    "volatile",
-    "while",
-    "true",
-    "false",
-    "null",
-    "_",
-];
-
 fn is_among(words: &[&str], text: &str) -> bool
     ensures { result ≡ list_any (λ word. bytes_eq word.now text.now) words.now }
 {
@@ -77,7 +20,44 @@ fn is_among(words: &[&str], text: &str) -> bool
 pub fn is_reserved(text: &str) -> bool
     ensures { result ≡ spec.is_reserved text.now }
 {
-    is_among(&RESERVED, text)
+    // A word is compared with those of its length alone.
+    match text.len() {
+        1 => is_among(&["_"], text),
+        2 => is_among(&["do", "if"], text),
+        3 => is_among(&["for", "int", "new", "try"], text),
+        4 => is_among(
+            &[
+                "byte", "case", "char", "else", "enum", "goto", "long", "this", "void", "true",
+                "null",
+            ],
+            text,
+        ),
+        5 => is_among(
+            &[
+                "break", "catch", "class", "const", "final", "float", "short", "super", "throw",
+                "while", "false",
+            ],
+            text,
+        ),
+        6 => is_among(
+            &[
+                "assert", "double", "import", "native", "public", "return", "static", "switch",
+                "throws",
+            ],
+            text,
+        ),
+        7 => is_among(
+            &[
+                "boolean", "default", "extends", "finally", "package", "private",
+            ],
+            text,
+        ),
+        8 => is_among(&["abstract", "continue", "strictfp", "volatile"], text),
+        9 => is_among(&["interface", "protected", "transient"], text),
+        10 => is_among(&["implements", "instanceof"], text),
+        12 => is_among(&["synchronized"], text),
+        _ => false,
+    }
 }
 
 /// Whether a word may begin with this character.

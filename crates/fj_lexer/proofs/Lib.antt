@@ -1,0 +1,6 @@
+pub mod Marks
+pub mod Parts
+pub mod TextEnds
+pub mod Texts
+pub mod Passing
+pub mod Calls

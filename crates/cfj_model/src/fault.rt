@@ -2,6 +2,7 @@ ghost use Rattle.std.specs.Prelude.{Some};
 ghost use Rattle.cfj_model.specs.FaultTexts.{kind_text, limit_text};
 
 use crate::name::Name;
+use std::alloc::{AllocError, AllocFailed};
 use std::fmt;
 
 /// The limits that a text can pass, in the order in which they are tested at one token.
@@ -95,5 +96,27 @@ impl fmt::Display for FaultKind {
             FaultKind::Limit(limit) => write!(f, "Limit {limit}"),
             FaultKind::NotUtf8 => write!(f, "NotUtf8"),
         }
+    }
+}
+
+impl From<AllocError> for ParseFault {
+    ghost use Rattle.cfj_model.specs.declared.fault.ParseFault.TheVariants.{NoMemory};
+    ghost use Rattle.std.specs.Prelude.{◌≡◌};
+
+    ghost from_gives = { λ _ fault. fault ≡ NoMemory };
+
+    fn from(_error: AllocError) -> ParseFault {
+        ParseFault::NoMemory
+    }
+}
+
+impl<T: Drop> From<AllocFailed<T>> for ParseFault {
+    ghost use Rattle.cfj_model.specs.declared.fault.ParseFault.TheVariants.{NoMemory};
+    ghost use Rattle.std.specs.Prelude.{◌≡◌};
+
+    ghost from_gives = { λ _ fault. fault ≡ NoMemory };
+
+    fn from(_error: AllocFailed<T>) -> ParseFault {
+        ParseFault::NoMemory
     }
 }

@@ -24,7 +24,7 @@ numbered_on f before x xs =
     ap (λ n. (before ++ f (length before) x ∷ []) ++ numbered f n xs) (length-append before (f (length before) x ∷ [])) ∙ append_assoc before (f (length before) x ∷ []) (numbered f (length before + 1) xs)
 
 -- the states between the items of each list
-abbrev pub in_members : State → State
+abbrev in_members : State → State
 in_members s = record s { mode = InMembers; of = unnamed; last = unnamed }
 
 abbrev pub in_params : State → State
@@ -49,7 +49,7 @@ abbrev pub in_assigns : State → State
 in_assigns s = record s { mode = InAssigns; last = unnamed }
 
 -- {field}
-pub fields_run : (ds : List Declared) (ts : List Token) (s : State) → run (in_order spell_field ds ts) (in_members s) ≡ with_roles (in_order roles_field ds) (run ts (in_members (record s { fields = s.fields ++ map value_field ds })))
+fields_run : (ds : List Declared) (ts : List Token) (s : State) → run (in_order spell_field ds ts) (in_members s) ≡ with_roles (in_order roles_field ds) (run ts (in_members (record s { fields = s.fields ++ map value_field ds })))
 unfolding run
 fields_run [] ts s = ap (λ fs. run ts (in_members (record s { fields = fs }))) (sym (append-nil s.fields))
 fields_run (d ∷ ds) ts s =
@@ -65,7 +65,7 @@ more_params_run (d ∷ ds) ts s =
     ∙ ap (λ ps. with_roles (λ rs. each_behind plain roles_param (d ∷ ds) (plain ∷ rs)) (run ts (after_params (record s { params = ps })))) (numbered_on value_param s.params d ds)
 
 -- list(param), and the bracket
-pub params_run : (ds : List Declared) (ts : List Token) (s : State) → run (separated Comma spell_param ds (CloseParen ∷ ts)) (in_params s) ≡ with_roles (λ rs. separated plain roles_param ds (plain ∷ rs)) (run ts (after_params (record s { params = numbered value_param 0 ds })))
+params_run : (ds : List Declared) (ts : List Token) (s : State) → run (separated Comma spell_param ds (CloseParen ∷ ts)) (in_params s) ≡ with_roles (λ rs. separated plain roles_param ds (plain ∷ rs)) (run ts (after_params (record s { params = numbered value_param 0 ds })))
 unfolding run
 params_run [] ts s = refl
 params_run (d ∷ ds) ts s = ap (with_roles (roles_param d)) (more_params_run ds ts (record s { params = value_param 0 d ∷ [] }))
@@ -79,13 +79,13 @@ more_sends_run (d ∷ ds) ts s =
     ∙ ap (λ ps. with_roles (λ rs. each_behind plain roles_sent (d ∷ ds) (plain ∷ rs)) (run ts (after_sends (record s { sends = ps })))) (numbered_on value_sent s.sends d ds)
 
 -- list(sent), and the bracket
-pub sends_run : (ds : List Named) (ts : List Token) (s : State) → run (separated Comma spell_sent ds (CloseParen ∷ ts)) (in_sends s) ≡ with_roles (λ rs. separated plain roles_sent ds (plain ∷ rs)) (run ts (after_sends (record s { sends = numbered value_sent 0 ds })))
+sends_run : (ds : List Named) (ts : List Token) (s : State) → run (separated Comma spell_sent ds (CloseParen ∷ ts)) (in_sends s) ≡ with_roles (λ rs. separated plain roles_sent ds (plain ∷ rs)) (run ts (after_sends (record s { sends = numbered value_sent 0 ds })))
 unfolding run
 sends_run [] ts s = refl
 sends_run (d ∷ ds) ts s = ap (with_roles (roles_sent d)) (more_sends_run ds ts (record s { sends = value_sent 0 d ∷ [] }))
 
 -- assign
-pub assign_run : (d : Named) (ts : List Token) (s : State) → run (spell_assign d ts) (in_assigns s) ≡ with_roles (roles_assign d) (run ts (in_assigns (record s { assigns = s.assigns ++ value_sent (length s.assigns) d ∷ [] })))
+assign_run : (d : Named) (ts : List Token) (s : State) → run (spell_assign d ts) (in_assigns s) ≡ with_roles (roles_assign d) (run ts (in_assigns (record s { assigns = s.assigns ++ value_sent (length s.assigns) d ∷ [] })))
 unfolding run
 assign_run d ts s =
     let n : State = record s { mode = AfterSecondName; assigns = s.assigns ++ value_sent (length s.assigns) d ∷ []; last = unnamed } in
@@ -101,7 +101,7 @@ assigns_run (d ∷ ds) ts s =
     ∙ ap (λ ps. with_roles (in_order roles_assign (d ∷ ds)) (run ts (in_assigns (record s { assigns = ps })))) (numbered_on value_sent s.assigns d ds)
 
 -- the states of a constructor: before its body, and behind it
-abbrev pub before_body : ClassTree → State → State
+abbrev before_body : ClassTree → State → State
 before_body k s = record s { mode = AfterParams; params = numbered value_param 0 k.params; sends = []; assigns = []; of = unnamed; last = unnamed }
 
 abbrev pub behind_ctor : ClassTree → State → State
@@ -119,7 +119,7 @@ abbrev pub named : List ℕ → State → State
 named w s = in_members (record s { name = w; params = []; sends = []; assigns = [] })
 
 -- ctor, in a class of its name
-pub ctor_run : (k : ClassTree) (ts : List Token) (s : State) → run (spell_ctor k ts) (named k.name s) ≡ with_roles (roles_ctor k) (run ts (behind_ctor k (record s { name = k.name })))
+ctor_run : (k : ClassTree) (ts : List Token) (s : State) → run (spell_ctor k ts) (named k.name s) ≡ with_roles (roles_ctor k) (run ts (behind_ctor k (record s { name = k.name })))
 unfolding run
 ctor_run k ts s =
     let body : List Token = OpenBrace ∷ (SuperWord ∷ (OpenParen ∷ separated Comma spell_sent k.sends (CloseParen ∷ (Semicolon ∷ in_order spell_assign k.assigns (CloseBrace ∷ ts))))) in
@@ -135,13 +135,13 @@ members_run ds k ts s =
     ∙ ap (with_roles (in_order roles_field ds)) (ctor_run k ts (record s { fields = s.fields ++ map value_field ds }))
 
 -- class
-pub class_run : (k : ClassTree) (ts : List Token) (cs : List Class) → run (spell_class k ts) (behind cs) ≡ with_roles (roles_class k) (run ts (behind (cs ++ value_class k ∷ [])))
+class_run : (k : ClassTree) (ts : List Token) (cs : List Class) → run (spell_class k ts) (behind cs) ≡ with_roles (roles_class k) (run ts (behind (cs ++ value_class k ∷ [])))
 unfolding run
 class_run k ts cs =
     ap (with_roles (λ rs. plain ∷ (class_name k.name ∷ (plain ∷ (used_name k.parent ∷ (plain ∷ rs)))))) (members_run k.fields k (CloseBrace ∷ ts) (record (behind cs) { parent = k.parent }))
 
 -- {class}
-pub classes_run_on : (tree : Tree) (ts : List Token) (cs : List Class) → run (spell tree ts) (behind cs) ≡ with_roles (roles tree) (run ts (behind (cs ++ map value_class tree)))
+classes_run_on : (tree : Tree) (ts : List Token) (cs : List Class) → run (spell tree ts) (behind cs) ≡ with_roles (roles tree) (run ts (behind (cs ++ map value_class tree)))
 unfolding run
 classes_run_on [] ts cs = ap (λ ks. run ts (behind ks)) (sym (append-nil cs))
 classes_run_on (k ∷ ks) ts cs =

@@ -1,22 +1,19 @@
 -- A text stands for one product line, or has one first fault, and not both.
-use Rattle.std.proofs.Common.{◌≡◌, ℕ, Bool, true, false, List, [], ◌∷◌, ◌++◌, map, refl, sym, ap, subst, ◌∙◌, append_assoc, Option, Some, None, chars, IsUtf8}
-use Rattle.std.specs.Str.{IsValidUpTo}
+use Rattle.std.proofs.Common.{◌≡◌, ℕ, List, [], ◌∷◌, ◌++◌, map, refl, sym, ap, subst, ◌∙◌, Option, Some, None, chars}
 use Rattle.std.proofs.lemmas.Bool.{true≢false}
 use Rattle.std.proofs.lemmas.Option.{none-some, same_Some, some_pair_parts}
 use Rattle.std.proofs.lemmas.List.{same_from_push}
 use Rattle.std.proofs.lemmas.Str.{utf8_valid_len-IsValidUpTo}
 use Rattle.cfj_model.specs.declared.fault.FaultKind.{FaultKind}
-use Rattle.cfj_model.specs.declared.class.Class.{Class}
-use Rattle.cfj_model.specs.Names.{is_identifier}
 use Rattle.cfj_model.specs.Lexemes.{Lexeme, Lexed, Found, AtEnd, NoToken, NoClose, next_lexeme}
-use Rattle.cfj_model.specs.Tokens.{Token, Id, End, token_of, token_seen, Takes, place_of, is_reserved_word}
+use Rattle.cfj_model.specs.Tokens.{Token, End, token_of, token_seen, Takes, place_of}
 use Rattle.cfj_model.specs.ProductLines.{ProductLine}
 use Rattle.cfj_model.specs.Grammar.{Tree, spell, value, value_class}
 use Rattle.cfj_model.specs.Roles.{Role, plain, roles, Tally, nothing, counted, tallied, broken_by, AreWithin}
-use Rattle.cfj_model.specs.Faults.{IsTextOf, Begins, CanGoOn, IsMisplaced, reserved, other, no_name, IsFaultAt, misplaced, breaking, Front, lexical_fault, IsFirstFault, no_text, no_lexeme, no_place}
+use Rattle.cfj_model.specs.Faults.{IsTextOf, Begins, IsMisplaced, reserved, other, no_name, IsFaultAt, misplaced, breaking, Front, lexical_fault, IsFirstFault, no_text, no_lexeme, no_place}
 use Rattle.fj_parser.specs.Machine.{State, behind, start, step, role, Run, then_run, run}
-use Rattle.fj_parser.proofs.Law.{on_from, run_append, classes_run, reads_begin, begins_reads}
-use Rattle.fj_parser.proofs.Texts.{takes_append, takes_same, takes_split, Order, same, shorter, longer, takes_order, same_place, same_lexeme}
+use Rattle.fj_parser.proofs.Law.{on_from, run_append, run_more, classes_run, reads_begin, begins_reads}
+use Rattle.fj_parser.proofs.Texts.{takes_same, takes_split, Order, same, shorter, longer, takes_order}
 
 -- The roles of a front are one.
 pub roles_one : (front : List Token) (rs ss : List Role) → Begins front rs → Begins front ss → rs ≡ ss
@@ -56,13 +53,6 @@ stepped t more m s rs e = go (step m t) refl e
     go None q e = absurd (none-some s (ap (λ x. x.0) e))
     go (Some n) q e = record { next = n; others = (run more n).1; steps = q; all = sym (ap (λ x. x.1) e) }
 
-one_step : (t : Token) (m n : State) → step m t ≡ Some n → run (t ∷ []) m ≡ (Some n, role m t ∷ [])
-unfolding run
-one_step t m n e = ap (then_run (run []) (role m t)) e
-
-one_more : (front : List Token) (t : Token) (m n : State) (rs : List Role) → run front start ≡ (Some m, rs) → step m t ≡ Some n → run (front ++ t ∷ []) start ≡ (Some n, rs ++ role m t ∷ [])
-one_more front t m n rs p q = run_append front (t ∷ []) start ∙ ap (on_from (t ∷ [])) p ∙ ap (λ x. (x.0, rs ++ x.1)) (one_step t m n q)
-
 -- A front goes on with this token, in a role.
 record GoesOn (front : List Token) (rs : List Role) (t : Token) (all : List Role) : Type 0 where
   r : Role
@@ -78,7 +68,7 @@ goes_on front rs t more all a b = go (begins_reads (front ++ t ∷ more) all b)
       r = role h.mid t;
       others = n.others;
       same_roles = h.all ∙ ap (λ x. h.first ++ x) n.all ∙ ap (λ x. x ++ role h.mid t ∷ n.others) (sym e);
-      begins = subst (λ x. Begins (front ++ t ∷ []) (x ++ role h.mid t ∷ [])) (sym e) (reads_begin (front ++ t ∷ []) n.next (h.first ++ role h.mid t ∷ []) (one_more front t h.mid n.next h.first h.reached n.steps));
+      begins = subst (λ x. Begins (front ++ t ∷ []) (x ++ role h.mid t ∷ [])) (sym e) (reads_begin (front ++ t ∷ []) n.next (h.first ++ role h.mid t ∷ []) (run_more front t h.mid n.next h.first h.reached n.steps));
     }
 
     then_go : (s : State) → Halves front (t ∷ more) s all → GoesOn front rs t all
@@ -208,7 +198,7 @@ end_ends {text} f g t more ended p = go (next_found (chars text) f.tokens t more
 
 -- Behind all classes the end may stand, and it breaks nothing.
 ends : (tree : Tree) → Begins (spell tree [] ++ End ∷ []) (roles tree [] ++ plain ∷ [])
-ends tree = reads_begin _ _ _ (one_more (spell tree []) End (behind (map value_class tree)) _ (roles tree []) (classes_run tree) refl)
+ends tree = reads_begin _ _ _ (run_more (spell tree []) End (behind (map value_class tree)) _ (roles tree []) (classes_run tree) refl)
 
 end_no_fault : (tree : Tree) (kind : FaultKind) → IsFaultAt (spell tree []) (roles tree []) End kind → ⊥
 end_no_fault tree kind (misplaced k never a) = never (roles tree [] ++ plain ∷ [], ends tree)

@@ -1,5 +1,5 @@
 -- A tree whose tokens break nothing stands for what a project's type keeps.
-use Rattle.std.proofs.Common.{◌≡◌, ℕ, suc, ◌+◌, ◌≤◌, ◌<◌, Bool, true, false, not, ◌&&◌, List, [], ◌∷◌, ◌++◌, length, map, refl, sym, ap, subst, ◌∙◌, arith, length-append, Option, Some, None, nat_le, nat_lt, bytes_eq}
+use Rattle.std.proofs.Common.{◌≡◌, ℕ, ◌+◌, ◌≤◌, ◌<◌, Bool, true, false, ◌&&◌, List, [], ◌∷◌, ◌++◌, length, map, refl, sym, subst, arith, None, nat_le, bytes_eq}
 use Rattle.std.specs.List.{list_all}
 use Rattle.std.proofs.lemmas.Bool.{and_parts, and_from, not_from_false, ltb-false, leb-false, le-leb}
 use Rattle.std.proofs.lemmas.Option.{none-some}
@@ -15,7 +15,7 @@ use Rattle.cfj_model.specs.declared.class.Constructor.{Constructor}
 use Rattle.cfj_model.specs.declared.class.Class.{Class}
 use Rattle.cfj_model.specs.Names.{is_identifier, is_short_identifier}
 use Rattle.cfj_model.specs.Tokens.{Token, Comma, CloseParen, OpenBrace, SuperWord, OpenParen, Semicolon, CloseBrace}
-use Rattle.cfj_model.specs.ProductLines.{most_classes, most_fields, most_in_ctor, most_size, object, has, are_new, are_distinct, rise_from, is_field, is_param, is_sent, are_fields, is_ctor, is_class, class_size, size, IsProject}
+use Rattle.cfj_model.specs.ProductLines.{most_classes, most_fields, most_in_ctor, most_size, object, has, are_new, rise_from, is_field, is_param, is_sent, are_fields, is_ctor, is_class, class_size, size, IsProject}
 use Rattle.cfj_model.specs.Grammar.{Declared, Named, ClassTree, Tree, in_order, each_behind, separated, spell_field, spell_param, spell_sent, spell_assign, spell_ctor, spell_class, spell, numbered, value_field, value_param, value_sent, value_ctor, value_class, value}
 use Rattle.cfj_model.specs.Roles.{Role, class_name, field_name, param_name, sent_name, assigned_name, used_name, plain, roles_field, roles_param, roles_sent, roles_assign, roles_ctor, roles_class, roles, Tally, nothing, counted, first_of, is_long, broken_by, AreWithin}
 use Rattle.fj_parser.specs.Machine.{are_read}

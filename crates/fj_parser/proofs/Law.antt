@@ -21,10 +21,12 @@ abbrev pub on_from : List Token → Run → Run
 on_from b (None, rs) = (None, rs)
 on_from b (Some s, rs) = ((run b s).0, rs ++ (run b s).1)
 
+-- a role before a run goes on with it
 role_on : (r : Role) (b : List Token) (p : Run) → with_role r (on_from b p) ≡ on_from b (with_role r p)
 role_on r b (None, rs) = refl
 role_on r b (Some s, rs) = refl
 
+-- the run of two lists of tokens is that of the first, gone on with
 pub run_append : (a b : List Token) (s : State) → run (a ++ b) s ≡ on_from b (run a s)
 unfolding run
 run_append [] b s = refl
@@ -62,8 +64,8 @@ let_through : (b : Bool) (f : State → Run) (r : Role) (n : State) → b ≡ tr
 let_through true f r n e h = h
 let_through false f r n e h = absurd (let no : ⊥ = cc e in no)
 
--- The shortest ends of a text: from the assignments, from behind the second name of one, from the second name, from the sent
--- names, from the body, from the parameters, from the constructor of a class, and from the class's brace.
+-- The shortest ends of a text: from the assignments, from the second name of one, from the sent names, from the constructor's
+-- body, from its parameters, from a class's constructor, and from the name of its superclass.
 assigns_end : List Token
 assigns_end = CloseBrace ∷ (CloseBrace ∷ (End ∷ []))
 
@@ -115,14 +117,17 @@ closing AfterSecondName s = Semicolon ∷ assigns_end
 closing AfterCtor s = CloseBrace ∷ (End ∷ [])
 closing AtEnd s = []
 
+-- a class with no constructor yet is completed by one of its name
 ctor_closes : (s : State) → Reaches AtEnd (run (ctor_end s.name) (record s { mode = InMembers })).0
 unfolding run ctor_end params_end body_end sends_end assigns_end
 ctor_closes s = let_through (bytes_eq s.name s.name) (run params_end) plain (record s { mode = InParams; of = unnamed }) (same_name s.name) refl
 
+-- an assignment is completed by the same name again
 second_closes : (s : State) → Reaches AtEnd (run (second_end s.last) (record s { mode = AfterEquals })).0
 unfolding run second_end assigns_end
 second_closes s = let_through (bytes_eq s.last s.last) (run (Semicolon ∷ assigns_end)) (used_name s.last) (record s { mode = AfterSecondName; last = unnamed }) (same_name s.last) refl
 
+-- each state is completed by its closing
 closes : (m : Mode) (s : State) → Reaches AtEnd (run (closing m s) (record s { mode = m })).0
 unfolding run closing parent_end ctor_end params_end body_end sends_end second_end assigns_end
 closes AfterClass s = refl
@@ -138,6 +143,7 @@ closes _ s = refl
 
 -- ---- what is read to the end is a text
 
+-- a run that reaches a mode in which a text may stop
 reach_stops : (m : Mode) (o : Option State) → is_whole_in m ≡ true → Reaches m o → is_whole o ≡ true
 reach_stops m None e h = absurd h
 reach_stops m (Some n) e h = ap is_whole_in h ∙ e
@@ -174,9 +180,11 @@ pub record WholeText (front : List Token) (s : State) (rs : List Role) : Type 0 
   pub in_roles : rs ≡ roles tree []
   pub valued : s.classes ≡ map value_class tree
 
+-- states that are equal behind `Some`
 some_same : (s n : State) → Some s ≡ Some n → s ≡ n
 some_same s n e = cc
 
+-- where the end may follow, the tokens so far are the text of a tree
 pub text_read : (front : List Token) (s n : State) (rs : List Role) → run front start ≡ (Some s, rs) → step s End ≡ Some n → WholeText front s rs
 text_read front s n rs h ends =
     let opens : Reaches Start (run front start).0 = subst (λ (p : Run). Reaches Start p.0) (sym h) (end_at_start s.mode s n ends) in
@@ -188,6 +196,7 @@ text_read front s n rs h ends =
 
 -- ---- what is read begins a text
 
+-- what the machine has read begins a text, in the roles that it gave
 pub reads_begin : (front : List Token) (s : State) (rs : List Role) → run front start ≡ (Some s, rs) → Begins front rs
 reads_begin front s rs h =
     let more = closing s.mode s in
@@ -213,6 +222,7 @@ same_front (q ∷ a) (r ∷ b) x y n e =
     let rest : a ≡ b = same_front a b x y (omega arith) others in
     cc
 
+-- and what begins a text is read, in its roles
 pub begins_reads : (front : List Token) (rs : List Role) → Begins front rs → (s : State) × (run front start ≡ (Some s, rs))
 begins_reads front rs b = go (run front start) refl (sym (run_append front b.more start) ∙ ap (λ w. run w start) (sym b.text) ∙ text_runs b.tree)
   where
@@ -227,6 +237,7 @@ begins_reads front rs b = go (run front start) refl (sym (run_append front b.mor
 
 -- ---- where the machine is stuck, no text goes on
 
+-- with a token that the machine refuses, no text begins so
 pub cannot_go_on : (front : List Token) (t : Token) (s : State) (rs : List Role) → run front start ≡ (Some s, rs) → step s t ≡ None → CanGoOn (front ++ t ∷ []) → ⊥
 unfolding run
 cannot_go_on front t s rs h stuck g =
@@ -248,6 +259,7 @@ last_holds false = refl
 some_name : List ℕ
 some_name = codes "$"
 
+-- it is one, whatever Unicode says of other characters
 some_name_is : is_identifier some_name ≡ true
 unfolding is_identifier is_reserved some_name chars
 some_name_is = search last_holds
@@ -258,14 +270,17 @@ Kept AfterAssigned s = is_identifier s.last ≡ true
 Kept AfterEquals s = is_identifier s.last ≡ true
 Kept _ s = Unit {0}
 
+-- and so behind a step, if there is one
 abbrev KeptIn : Option State → Type 0
 KeptIn None = Unit {0}
 KeptIn (Some n) = Kept n.mode n
 
+-- behind a test
 kept_if : (b : Bool) (n : State) → Kept n.mode n → KeptIn (if b then Some n else None)
 kept_if true n k = k
 kept_if false n k = tt
 
+-- a step keeps it
 kept_step : (m : Mode) (s : State) (t : Token) → Kept m s → is_read t ≡ true → KeptIn (step_in m s t)
 kept_step Start s ClassWord k r = tt
 kept_step Start s End k r = tt
@@ -302,10 +317,12 @@ kept_step AfterSecondName s Semicolon k r = tt
 kept_step AfterCtor s CloseBrace k r = tt
 kept_step _ s t k r = tt
 
+-- two tests that hold
 both : (a b : Bool) → (a && b) ≡ true → (a ≡ true) × (b ≡ true)
 both true b e = (refl, e)
 both false b e = absurd (let no : ⊥ = cc e in no)
 
+-- a run over tokens that a text can have keeps it
 kept_run : (ts : List Token) (s n : State) → Kept s.mode s → are_read ts ≡ true → (run ts s).0 ≡ Some n → Kept n.mode n
 unfolding run
 kept_run [] s n k r h = let same : s ≡ n = cc h in subst (λ (x : State). Kept x.mode x) same k
@@ -324,6 +341,7 @@ record GoesByName (m : Mode) (s : State) : Type 0 where
   is : is_identifier name ≡ true
   goes : step_in m s (Id name) ≡ Some next
 
+-- by the identifier above
 by_some : (m : Mode) (s n : State) → step_in m s (Id some_name) ≡ Some n → GoesByName m s
 by_some m s n e = record { name = some_name; next = n; is = some_name_is; goes = e }
 
@@ -359,6 +377,7 @@ name_stops AfterThisDot s w e = absurd (let no : ⊥ = cc e in no)
 name_stops AfterEquals s w e = absurd (let no : ⊥ = cc e in no)
 name_stops _ s w e = refl
 
+-- the name that a misplaced token gets is the right one
 pub misplaced_as : (front : List Token) (t : Token) (s : State) (rs : List Role) → run front start ≡ (Some s, rs) → are_read front ≡ true → step s t ≡ None → IsMisplaced front t (misplaced_kind s t)
 misplaced_as front t s rs h read stuck = go (is_reserved_word t) (takes_name s.mode) refl refl
   where

@@ -4,6 +4,8 @@ pub mod Counts
 pub mod FirstFault
 pub mod Kept
 pub mod Law
+pub mod LexedTokens
 pub mod MetNames
+pub mod Progress
 pub mod Sound
 pub mod Texts

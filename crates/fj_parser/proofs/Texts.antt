@@ -1,12 +1,12 @@
 -- What `Takes` says of a text: it goes together, comes apart, and is one.
-use Rattle.std.proofs.Common.{◌≡◌, ℕ, ◌==◌, Bool, true, false, ◌&&◌, cond, List, [], ◌∷◌, ◌++◌, refl, sym, ap, subst, ◌∙◌, codes, encode_utf8_all, bytes_eq, chars, IsUtf8}
+use Rattle.std.proofs.Common.{◌≡◌, ℕ, ◌==◌, Bool, true, false, cond, List, [], ◌∷◌, ◌++◌, refl, sym, ap, subst, ◌∙◌, codes, encode_utf8_all, bytes_eq, chars, IsUtf8}
 use Rattle.std.specs.List.{list_all}
 use Rattle.std.specs.Str.{all_scalars}
 use Rattle.std.proofs.lemmas.Bool.{cond_both, and_parts, and_from, not_from_false}
 use Rattle.std.proofs.lemmas.Str.{chars-encodes, scalars-chars}
 use Rattle.cfj_model.specs.Names.{starts_word, continues_word, is_word, is_reserved, is_identifier}
-use Rattle.cfj_model.specs.Lexemes.{is_blank, is_line_end, Between, blanks, slash, line, block, star, Skipped, Reached, Unclosed, skipped, word_run, word_rest, Lexeme, Word, Mark, Lexed, Found, AtEnd, NoToken, NoClose, is_single_mark, after_dash, after_less_dash, after_less, lexeme_at, after_blanks, next_lexeme}
-use Rattle.cfj_model.specs.Tokens.{Token, Id, word_token, mark_token, token_of, Takes}
+use Rattle.cfj_model.specs.Lexemes.{is_blank, is_line_end, Between, blanks, slash, line, block, star, Skipped, Reached, Unclosed, skipped, word_run, word_rest, Lexeme, Lexed, Found, AtEnd, NoToken, NoClose, is_single_mark, after_dash, after_less_dash, after_less, lexeme_at, after_blanks, next_lexeme}
+use Rattle.cfj_model.specs.Tokens.{Token, word_token, mark_token, token_of, Takes}
 use Rattle.fj_parser.specs.Machine.{is_read, are_read}
 
 -- What takes these tokens and then those takes them all.
@@ -18,14 +18,11 @@ takes_append cs (t ∷ ts) mid us rest (l, from, next, found, is, more) q = (l, 
 pub takes_more : (cs : List ℕ) (ts : List Token) (mid : List ℕ) (l : Lexeme) (from rest : List ℕ) → Takes cs ts mid → next_lexeme mid ≡ Found l from rest → Takes cs (ts ++ token_of l ∷ []) rest
 takes_more cs ts mid l from rest p found = takes_append cs ts mid (token_of l ∷ []) rest p (l, from, rest, found, refl, refl)
 
--- What is found first in a text is one lexeme, at one place, with one text behind it.
-pub same_lexeme : (k l : Lexeme) (place from behind next : List ℕ) → Found k place behind ≡ Found l from next → k ≡ l
+-- What is found first in a text is one lexeme, with one text behind it.
+same_lexeme : (k l : Lexeme) (place from behind next : List ℕ) → Found k place behind ≡ Found l from next → k ≡ l
 same_lexeme k l place from behind next e = cc e
 
-pub same_place : (k l : Lexeme) (place from behind next : List ℕ) → Found k place behind ≡ Found l from next → place ≡ from
-same_place k l place from behind next e = cc e
-
-pub same_rest : (k l : Lexeme) (place from behind next : List ℕ) → Found k place behind ≡ Found l from next → behind ≡ next
+same_rest : (k l : Lexeme) (place from behind next : List ℕ) → Found k place behind ≡ Found l from next → behind ≡ next
 same_rest k l place from behind next e = cc e
 
 -- What stands behind these tokens is one text.

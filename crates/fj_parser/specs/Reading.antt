@@ -1,0 +1,29 @@
+-- How the parser stands towards the text that it reads.
+use Rattle.std.specs.Prelude.{◌≡◌, ℕ, List, [], Some}
+use Rattle.std.specs.Str.{chars}
+use Rattle.cfj_model.specs.ProductLines.{ProductLine}
+use Rattle.cfj_model.specs.Roles.{Role, Tally, nothing, tallied, AreWithin}
+use Rattle.cfj_model.specs.Tokens as token
+use Rattle.cfj_model.specs.declared.class.Class.{Class}
+use Rattle.fj_lexer.specs.declared.token.TokenKind.{TokenKind}
+use Rattle.fj_lexer.specs.declared.token.TokenKind.TheVariants.{Word, Reserved, Mark}
+use Rattle.fj_parser.specs.Machine.{State, start, run}
+
+-- The tokens before the rest of a text are read: by the machine, and by the tally, which found nothing that breaks.
+pub record IsReading (text rest : List ℕ) (s : State) (t : Tally) : Type 0 where
+  pub tokens : List token.Token
+  pub roles : List Role
+  pub taken : token.Takes (chars text) tokens (chars rest)
+  pub ran : run tokens start ≡ (Some s, roles)
+  pub within : AreWithin nothing roles
+  pub counts : t ≡ tallied nothing roles
+
+-- the product line with no features and these classes
+abbrev pub of_classes : List Class → ProductLine
+of_classes classes = record { model = record { features = [] }; classes = classes }
+
+-- what a token of this kind and text is
+abbrev pub token_read : TokenKind → List ℕ → token.Token
+token_read Word text = token.Id text
+token_read Reserved text = token.word_token text
+token_read Mark text = token.mark_token text

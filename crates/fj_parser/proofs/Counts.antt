@@ -12,29 +12,10 @@ use Rattle.cfj_model.specs.declared.class.Sent.{Sent}
 use Rattle.cfj_model.specs.Roles.{Role, class_name, field_name, param_name, sent_name, assigned_name, Tally, nothing, counted, broken_by, is_long}
 use Rattle.fj_parser.specs.Machine.{unnamed, State, step, step_in, role, role_in, behind, start}
 use Rattle.fj_parser.specs.MachineViews.{IsRoomy}
+use Rattle.fj_parser.specs.Counting.{is_bare_mode, IsCounted, Counted}
 use Rattle.fj_parser.proofs.Kept.{NoneHolds, none_holds}
 use Rattle.fj_parser.specs.declared.mode.Mode.{Mode}
 use Rattle.fj_parser.specs.declared.mode.Mode.TheVariants.{Start, AfterClass, AfterClassName, AfterExtends, AfterParent, InMembers, AfterType, AfterFieldName, InParams, AfterParamComma, AfterParamType, AfterParam, AfterParams, InBody, AfterSuper, InSends, AfterSendComma, AfterSend, AfterSends, InAssigns, AfterThis, AfterThisDot, AfterAssigned, AfterEquals, AfterSecondName, AfterCtor, AtEnd}
-
--- the modes before a class's name
-abbrev pub is_bare_mode : Mode → Bool
-is_bare_mode Start = true
-is_bare_mode AfterClass = true
-is_bare_mode _ = false
-
--- Lists of these lengths are no longer than what was counted, which is within the limit. Before a class's name they are empty.
-pub record IsCounted (bare : Bool) (p q r : ℕ) (t : Tally) : Type 0 where
-  pub empty : bare ≡ true → (p ≡ 0) × (q ≡ 0) × (r ≡ 0)
-  pub params : p ≤ length t.params
-  pub sends : q ≤ t.sends
-  pub assigns : r ≤ t.assigns
-  pub few_params : length t.params ≤ 1024
-  pub few_sends : t.sends ≤ 1024
-  pub few_assigns : t.assigns ≤ 1024
-
--- the lists in hand are no longer than what was counted
-abbrev pub Counted : State → Tally → Type 0
-Counted s t = IsCounted (is_bare_mode s.mode) (length s.params) (length s.sends) (length s.assigns) t
 
 -- within a class
 within : {b : Bool} {p q r : ℕ} {t : Tally} → IsCounted b p q r t → IsCounted false p q r t

@@ -16,7 +16,7 @@ use Rattle.fj_lexer.specs.declared.token.TokenKind.{TokenKind}
 use Rattle.fj_lexer.specs.declared.token.TokenKind.TheVariants as kind
 use Rattle.fj_lexer.specs.declared.token.LexFault.{LexFault}
 use Rattle.fj_lexer.specs.declared.token.LexFault.TheVariants.{BadChar, OpenComment}
-use Rattle.fj_parser.specs.Reading.{token_read}
+use Rattle.fj_parser.specs.Reading.{fault_kind, fault_place, token_read}
 
 -- ---- a word that isn't reserved is none of the grammar's words
 
@@ -85,15 +85,6 @@ end_given (Found l from rest) old new g = absurd (let e = g.given in let no : �
 end_given AtEnd old new g = refl
 end_given (NoToken from) old new g = absurd (let e = g.given in let no : ⊥ = cc e in no)
 end_given (NoClose from) old new g = absurd (let e = g.given in let no : ⊥ = cc e in no)
-
--- the fault that the lexer tells, as the grammar names it
-abbrev pub fault_place : LexFault → ℕ
-fault_place (BadChar at) = at
-fault_place (OpenComment at) = at
-
-abbrev pub fault_kind : LexFault → FaultKind
-fault_kind (BadChar at) = fault.BadChar
-fault_kind (OpenComment at) = fault.OpenComment
 
 pub record FaultGiven (first : Lexed) (old : Lexer) (f : LexFault) : Type 0 where
   pub from : List ℕ

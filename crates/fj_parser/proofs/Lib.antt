@@ -1,6 +1,7 @@
 pub mod Accepted
 pub mod Complete
 pub mod Counts
+pub mod Exact
 pub mod FirstFault
 pub mod Kept
 pub mod Law
@@ -9,3 +10,4 @@ pub mod MetNames
 pub mod Progress
 pub mod Sound
 pub mod Texts
+pub mod TokenReads

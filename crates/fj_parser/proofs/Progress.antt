@@ -1,7 +1,7 @@
 -- Reading goes on by one token, or ends: with the text's value, or with its first fault.
-use Rattle.std.proofs.Common.{◌≡◌, ℕ, Bool, true, false, List, [], ◌∷◌, ◌++◌, Option, Some, None, IfSome, refl, sym, ap, subst, ◌∙◌, inl, inr, ⊎_elim, append_assoc}
+use Rattle.std.proofs.Common.{◌≡◌, ℕ, Bool, true, false, List, [], ◌∷◌, ◌++◌, length, Option, Some, None, IfSome, refl, sym, ap, subst, ◌∙◌, inl, inr, ⊎_elim, append_assoc}
 use Rattle.std.specs.Prelude.{◌⊎◌}
-use Rattle.std.proofs.lemmas.List.{append-nil}
+use Rattle.std.proofs.Math.Nat.{sub-zero}
 use Rattle.std.specs.Str.{chars, IsUtf8}
 use Rattle.cfj_model.specs.declared.fault.FaultKind.{FaultKind}
 use Rattle.cfj_model.specs.declared.class.Class.{Class}
@@ -17,7 +17,8 @@ use Rattle.fj_parser.specs.Machine.{State, start, run, step, step_in, role, misp
 use Rattle.fj_parser.specs.Reading.{IsReading, of_classes}
 use Rattle.fj_parser.specs.declared.mode.Mode.{Mode}
 use Rattle.fj_parser.specs.declared.mode.Mode.TheVariants.{Start}
-use Rattle.fj_parser.proofs.Counts.{Counted, counted_more}
+use Rattle.fj_parser.specs.Counting.{Counted}
+use Rattle.fj_parser.proofs.Counts.{counted_more}
 use Rattle.fj_parser.proofs.Law.{reads_begin, cannot_go_on, run_more, misplaced_as, WholeText, text_read}
 use Rattle.fj_parser.proofs.Texts.{takes_more, takes_read, scalars_of}
 
@@ -72,6 +73,12 @@ fault_at text rest s n t u token kind utf8 h (inr a) =
 pub ends_at_token : (text rest : List ℕ) (s n : State) (t u : Tally) (token : Token) (from : List ℕ) (kind : FaultKind) → IsUtf8 text → IsReading text rest s t → token_seen (next_lexeme (chars rest)) ≡ Some (token, from) → IsAccepted s t token n u (Some kind) → IsFirstFault text (place_of text from) kind
 ends_at_token text rest s n t u token from kind utf8 h e a = no_place (front text rest s t utf8 h) token from kind e (fault_at text rest s n t u token kind utf8 h a)
 
+-- the end of the text is the first fault's place
+pub end_ends : (text rest : List ℕ) (s n : State) (t u : Tally) (kind : FaultKind) → IsUtf8 text → IsReading text rest s t → next_lexeme (chars rest) ≡ AtEnd → IsAccepted s t End n u (Some kind) → IsFirstFault text (length text) kind
+end_ends text rest s n t u kind utf8 h e a =
+    subst (λ x. IsFirstFault text x kind) (sub-zero (length text))
+    (ends_at_token text rest s n t u End [] kind utf8 h (ap token_seen e) a)
+
 -- ---- reading ends with the whole text
 
 end_in : (m : Mode) (s : State) → IfSome (step_in m s End) (λ n. n.classes ≡ s.classes)
@@ -98,3 +105,9 @@ ends_whole text rest s n t u utf8 h e a =
 pub text_kept : (text : List ℕ) (line : ProductLine) → IsTextOf text line → IsProject line
 text_kept text line h =
     subst IsProject (sym h.valued) (kept h.tree h.within (takes_read (chars text) (spell h.tree []) h.rest (scalars_of text h.utf8) h.spelled))
+
+-- before the first token
+pub reads_first : (text a b : List ℕ) (s : State) (t : Tally) → a ≡ text → b ≡ text → s ≡ start → t ≡ nothing → IsReading a b s t
+reads_first text a b s t p q r u =
+    subst (λ x. IsReading x b s t) (sym p)
+    (subst (λ x. IsReading text x s t) (sym q) (subst (λ x. IsReading text text x t) (sym r) (subst (λ x. IsReading text text start x) (sym u) (reads_nothing text))))

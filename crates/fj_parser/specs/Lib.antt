@@ -1,4 +1,6 @@
 pub mod Accepting
+pub mod Answers
+pub mod Counting
 pub mod Machine
 pub mod MachineViews
 pub mod Reading

@@ -5,6 +5,10 @@ use Rattle.cfj_model.specs.ProductLines.{ProductLine}
 use Rattle.cfj_model.specs.Roles.{Role, Tally, nothing, tallied, AreWithin}
 use Rattle.cfj_model.specs.Tokens as token
 use Rattle.cfj_model.specs.declared.class.Class.{Class}
+use Rattle.cfj_model.specs.declared.fault.FaultKind.{FaultKind}
+use Rattle.cfj_model.specs.declared.fault.FaultKind.TheVariants as fault
+use Rattle.fj_lexer.specs.declared.token.LexFault.{LexFault}
+use Rattle.fj_lexer.specs.declared.token.LexFault.TheVariants.{BadChar, OpenComment}
 use Rattle.fj_lexer.specs.declared.token.TokenKind.{TokenKind}
 use Rattle.fj_lexer.specs.declared.token.TokenKind.TheVariants.{Word, Reserved, Mark}
 use Rattle.fj_parser.specs.Machine.{State, start, run}
@@ -27,3 +31,12 @@ abbrev pub token_read : TokenKind → List ℕ → token.Token
 token_read Word text = token.Id text
 token_read Reserved text = token.word_token text
 token_read Mark text = token.mark_token text
+
+-- the fault that the lexer tells, as the grammar names it
+abbrev pub fault_place : LexFault → ℕ
+fault_place (BadChar at) = at
+fault_place (OpenComment at) = at
+
+abbrev pub fault_kind : LexFault → FaultKind
+fault_kind (BadChar at) = fault.BadChar
+fault_kind (OpenComment at) = fault.OpenComment

@@ -9,8 +9,9 @@ mod accept;
 mod machine;
 mod met;
 mod mode;
+mod parser;
 mod role;
 mod symbol;
 mod tally;
 
-pub use mode::Mode;
+pub use parser::parse_project;

@@ -535,6 +535,13 @@ impl<'a> Machine<'a> {
         Ok(())
     }
 
+    /// The classes that are read.
+    pub fn into_classes(self) -> Vec<Class>
+        ensures { result.items ≡ self.entry.classes.items }
+    {
+        self.classes
+    }
+
     /// Whether an identifier could stand next.
     pub fn takes(&self, name: &str) -> bool
         ensures { result ≡ is_some (spec.step (machine_seen self.now) (Id name.now)) }

@@ -1,0 +1,6 @@
+use Rattle.fj_parser.proofs.Progress.{reads_first}
+use Rattle.fj_parser.proofs.parser.read_classes.Goals as goal
+
+pub read_tokens-requires-clause-reading : goal.read_tokens-requires-clause-reading
+read_tokens-requires-clause-reading c =
+    reads_first c.args.text.now _ _ _ _ c.new-lexer.ensures.text c.new-lexer.ensures.rest c.new-machine.ensures c.new-tally.ensures

@@ -1,0 +1,136 @@
+ghost use Rattle.std.specs.Prelude.{◌≡◌, ℕ, ◌≤◌, List, length, true, None, Some, IfOk, Ok, Err, OnOk};
+ghost use Rattle.std.specs.Str.{IsUtf8};
+ghost use Rattle.cfj_model.specs.Faults.{IsFirstFault, IsTextOf};
+ghost use Rattle.cfj_model.specs.Names.{is_reserved};
+ghost use Rattle.cfj_model.specs.ProductLines.{ProductLine};
+ghost use Rattle.fj_parser.specs.Accepting.{IsAccepted};
+ghost use Rattle.fj_parser.specs.Counting.{Counted};
+ghost use Rattle.fj_parser.specs.Machine.{is_read};
+ghost use Rattle.fj_parser.specs.MachineViews.{machine_seen, IsRoomy};
+ghost use Rattle.fj_parser.specs.Answers.{IsReadAs, IsRefusedAs};
+ghost use Rattle.fj_parser.specs.Reading.{IsReading, fault_kind, fault_place, of_classes, token_read};
+ghost use Rattle.fj_parser.specs.Views.{symbol_seen, tally_seen};
+
+use crate::accept::accept;
+use crate::machine::Machine;
+use crate::symbol::{Symbol, mark_symbol, reserved_symbol};
+use crate::tally::Tally;
+use cfj_model::{Class, FaultKind, FeatureModel, Items, ParseFault, Project};
+use fj_lexer::{LexFault, Lexer, Token, TokenKind};
+use std::alloc::Global;
+use std::str;
+use std::sync::Arc;
+
+fn symbol_of<'a>(token: Token<'a>) -> Symbol<'a>
+    requires { token.kind ≡ TokenKind.Reserved → is_reserved token.text.now ≡ true }
+    ensures { symbol_seen result ≡ token_read token.entry.kind token.entry.text.now }
+{
+    match token.kind {
+        TokenKind::Word => Symbol::Id(token.text),
+        TokenKind::Reserved => reserved_symbol(token.text),
+        TokenKind::Mark => mark_symbol(token.text),
+    }
+}
+
+fn refusal(fault: LexFault) -> ParseFault
+    ensures { result ≡ ParseFault.At (fault_place fault) (fault_kind fault) }
+{
+    match fault {
+        LexFault::BadChar(at) => ParseFault::At {
+            at,
+            kind: FaultKind::BadChar,
+        },
+        LexFault::OpenComment(at) => ParseFault::At {
+            at,
+            kind: FaultKind::OpenComment,
+        },
+    }
+}
+
+/// Takes one token in, or tells its fault and its place.
+fn take<'a>(
+    alloc: Global,
+    machine: &mut Machine<'a>,
+    tally: &mut Tally<'a>,
+    symbol: Symbol<'a>,
+    at: usize,
+) -> Result<(), ParseFault>
+    requires read { is_read (symbol_seen symbol) ≡ true }
+    requires room { IsRoomy (machine_seen machine.old) }
+    ensures ok { OnOk result (IsAccepted
+        (machine_seen machine.old) (tally_seen tally.old) (symbol_seen symbol.entry) (machine_seen machine.new) (tally_seen tally.new) None) }
+    ensures fault { (place : ℕ) (kind : _) → result ≡ Err (ParseFault.At place kind) → (place ≡ at) × IsAccepted
+        (machine_seen machine.old) (tally_seen tally.old) (symbol_seen symbol.entry) (machine_seen machine.new) (tally_seen tally.new) (Some kind) }
+{
+    match accept(alloc, machine, tally, symbol)? {
+        Some(kind) => Err(ParseFault::At { at, kind }),
+        None => Ok(()),
+    }
+}
+
+/// Reads the tokens of a text to its end.
+fn read_tokens<'a>(
+    alloc: Global,
+    lexer: &mut Lexer<'a>,
+    machine: &mut Machine<'a>,
+    tally: &mut Tally<'a>,
+) -> Result<(), ParseFault>
+    requires utf8 { IsUtf8 lexer.old.text.now }
+    requires reading { IsReading lexer.old.text.now lexer.old.rest.now (machine_seen machine.old) (tally_seen tally.old) }
+    requires counted { Counted (machine_seen machine.old) (tally_seen tally.old) }
+    ensures read { OnOk result (IsTextOf lexer.old.text.now (of_classes machine.new.classes.items)) }
+    ensures fault { (at : ℕ) (kind : _) → result ≡ Err (ParseFault.At at kind) → IsFirstFault lexer.old.text.now at kind }
+{
+    'tokens: while let Some(next) = lexer.next() {
+        let token = match next {
+            Ok(token) => token,
+            Err(fault) => return Err(refusal(fault)),
+        };
+        take(alloc, machine, tally, symbol_of(token), token.at)?;
+    }
+    take(alloc, machine, tally, Symbol::End, lexer.text.len())
+}
+
+/// The classes of a text.
+fn read_classes(alloc: Global, text: &str) -> Result<Vec<Class>, ParseFault>
+    ensures read { IfOk result (λ classes. IsTextOf text.now (of_classes classes.items)) }
+    ensures fault { (at : ℕ) (kind : _) → result ≡ Err (ParseFault.At at kind) → IsFirstFault text.now at kind }
+{
+    let mut lexer = Lexer::new(text);
+    let mut machine = Machine::new(alloc);
+    let mut tally = Tally::new(alloc);
+    read_tokens(alloc, &mut lexer, &mut machine, &mut tally)?;
+    Ok(machine.into_classes())
+}
+
+fn read_project(alloc: Global, text: &[u8]) -> Result<Project, ParseFault>
+    ensures read { IfOk result (λ project. IsTextOf text.now project) }
+    ensures fault { (at : ℕ) (kind : _) → result ≡ Err (ParseFault.At at kind) → IsFirstFault text.now at kind }
+{
+    let text = match str::from_utf8(text) {
+        Ok(text) => text,
+        Err(error) => {
+            return Err(ParseFault::At {
+                at: error.valid_up_to(),
+                kind: FaultKind::NotUtf8,
+            });
+        }
+    };
+    let classes = read_classes(alloc, text)?;
+    let features = Items::of(Vec::new(alloc));
+    let model = Arc::new(alloc, FeatureModel { features })?;
+    Ok(Project::of(model, classes)?)
+}
+
+/// The product line that a text stands for, numbered, or the text's first fault.
+pub fn parse_project(alloc: Global, text: &[u8]) -> Result<Project, ParseFault>
+    requires { length text.now ≤ 4194304 }
+    // What is read is the value of a text of the grammar, and every text of the grammar is read.
+    ensures read { IfOk result (λ project. IsTextOf text.now project) }
+    ensures only { (line : ProductLine) → IsTextOf text.now line → IsReadAs line result }
+    // A fault is the first one, and every first fault is told.
+    ensures fault { (at : ℕ) (kind : _) → result ≡ Err (ParseFault.At at kind) → IsFirstFault text.now at kind }
+    ensures first { (at : ℕ) (kind : _) → IsFirstFault text.now at kind → IsRefusedAs at kind result }
+{
+    read_project(alloc, text)
+}

@@ -6,12 +6,17 @@
 //! at the calls that a test lists.
 #![tactic(auto)]
 
+mod calls;
 mod faults;
+mod memory_sink;
+mod memory_source;
 mod rooms;
 mod sinks;
 mod sources;
 
 pub use faults::{Failed, OpenFault, ReadAll};
+pub use memory_sink::MemSink;
+pub use memory_source::MemSource;
 pub use rooms::Room;
-pub use sinks::Sink;
-pub use sources::Source;
+pub use sinks::{Sink, put_all};
+pub use sources::{Source, read_all};

@@ -1,6 +1,6 @@
 -- Known bytes with more behind them or in front of them, piece after piece.
-use Rattle.std.proofs.Common.{◌≡◌, ℕ, ◌+◌, ◌<◌, ◌≤◌, List, [], ◌++◌, length, take, drop, Some, None, refl, ap, sym, ◌∙◌, arith, append_assoc, subst, length-append, ◌-◌, Result, Ok, IfOk, is_ok, if◌then◌else◌}
-use Rattle.std.proofs.lemmas.List.{append-nil, take-append-drop, length-drop, length-take, take_rest, take-append-le}
+use Rattle.std.proofs.Common.{◌≡◌, ℕ, ◌+◌, ◌<◌, ◌≤◌, List, [], ◌++◌, length, take, drop, Some, None, refl, ap, sym, ◌∙◌, arith, append_assoc, subst, length-append, ◌-◌, Result, Ok, IfOk, is_ok, if◌then◌else◌, min}
+use Rattle.std.proofs.lemmas.List.{append-nil, take-append-drop, length-drop, length-take, take_rest, take-append-le, drop-drop, nil_from_length}
 use Rattle.std.proofs.Math.Seq.{take-add, take_all}
 use Rattle.cide_io.specs.Known.{Known, appended, preceded, IsAtEnd, IsCut, IsPut, IsTaken}
 use Rattle.cide_io.specs.declared.faults.Failed.{Failed}
@@ -99,3 +99,19 @@ appended_items {E} old now more r u is h =
 pub appended_len : {E : Type 0} (old now more : ℕ) (r : Result Unit E) (u : Unit) → r ≡ Ok u → now ≡ (if is_ok r then old + more else old) → now ≡ old + more
 appended_len {E} old now more r u is h =
     let P : Result Unit E → Type 0 = λ v. now ≡ (if is_ok v then old + more else old) in subst P is h
+
+-- What is left of some bytes begins with what was copied to the front of a slice.
+pub copied_front : (bytes given into copied tail : List ℕ) (taken count : ℕ)
+  → given ≡ bytes → count ≡ min (length (rest_of given taken)) (length into) → length copied ≡ length (take count into) → copied ≡ take count (rest_of given taken)
+  → drop taken bytes ≡ take count (copied ++ tail) ++ drop (taken + count) bytes
+copied_front bytes given into copied tail taken count g m l p =
+    let size : length copied ≡ count = omega (arith, length-take count into) in
+    let rest : rest_of given taken ≡ drop taken bytes = take_rest given taken ∙ ap (drop taken) g in
+    let front : take count (copied ++ tail) ≡ take count (drop taken bytes) = written_back copied tail count size ∙ p ∙ ap (take count) rest in
+    sym (ap (λ f. f ++ drop (taken + count) bytes) front ∙ ap (λ b. take count (drop taken bytes) ++ b) (sym (drop-drop count taken bytes)) ∙ take-append-drop count (drop taken bytes))
+
+-- Where there was room and nothing was copied, nothing is left.
+pub nothing_left : (bytes given into : List ℕ) (taken count : ℕ)
+  → given ≡ bytes → count ≡ min (length (rest_of given taken)) (length into) → 0 < length into → count ≡ 0 → drop taken bytes ≡ []
+nothing_left bytes given into taken count g m h z =
+    sym (take_rest given taken ∙ ap (drop taken) g) ∙ nil_from_length (rest_of given taken) (omega arith)

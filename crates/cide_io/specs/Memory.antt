@@ -1,11 +1,12 @@
 -- The memory objects: what they hold, and which of their calls fail.
-use Rattle.std.specs.Prelude.{◌≡◌, ℕ, ◌==◌, ◌≤◌, Bool, ◌||◌, List, [], ◌∷◌, Option, Some, None, option_map, is_none, map, if◌then◌else◌}
+use Rattle.std.specs.Prelude.{ℕ, zero, suc, ◌==◌, Bool, List, [], ◌∷◌, Option, Some, None, option_map, map, if◌then◌else◌}
 use Rattle.std.specs.List.{list_any}
 use Rattle.std.specs.Str.{bytes_eq}
 use Rattle.std.specs.Prelude.{String}
 use Rattle.std.specs.String.{string_bytes}
 use Rattle.std.specs.declared.alloc.Global.{Global}
 use Rattle.cide_io.specs.Known.{Known}
+use Rattle.cide_io.specs.Faults.{raised}
 use Rattle.cide_io.specs.Rooms.{Shut}
 
 -- a memory source: the bytes that are left, the numbers of the calls that fail, and how many calls and faults there were
@@ -28,7 +29,7 @@ pub record MemoryOutput : Type 0 where
 pub record MemoryRoom : Type 0 where
   pub inputs : List (List ℕ × MemoryInput)
   pub outs : List (List ℕ × MemoryOutput)
-  pub shut : List (List ℕ × MemoryOutput)
+  pub shut : List Shut
   pub fails : List ℕ
   pub opens : ℕ
   pub open_outs : ℕ
@@ -56,6 +57,18 @@ fresh_input source = record { left = source.left; fails = source.fails; calls = 
 abbrev pub fresh_output : MemoryOutput → List ℕ → MemoryOutput
 fresh_output sink name = record { held = []; name = Some name; fails = sink.fails; calls = 0; faults = 0 }
 
--- what a room tells of an output that was shut: its name where it had one
-abbrev pub shut_as : List ℕ × MemoryOutput → Shut
-shut_as pair = record { name = option_map (λ _. pair.0) pair.1.name; held = Some pair.1.held }
+-- what a room tells of a sink that was shut, which stands beside its name where it had one
+abbrev pub shut_as : String Global × MemoryOutput → Shut
+shut_as pair = record { name = option_map (λ _. string_bytes pair.0) pair.1.name; held = Some pair.1.held }
+
+abbrev pub shut_list : List (String Global × MemoryOutput) → List Shut
+shut_list pairs = map shut_as pairs
+
+-- the object that an open gives: none where the open is to fail or there is no such name
+abbrev pub opened : {X : Type 0} → List ℕ → ℕ → List (List ℕ × X) → List ℕ → Option X
+opened fails opens pairs name = if is_listed fails opens then None else look_up pairs name
+
+-- the count of a room after an object with so many faults was handed back
+abbrev pub passed_on : ℕ → ℕ → ℕ
+passed_on zero count = count
+passed_on (suc faults) count = raised count

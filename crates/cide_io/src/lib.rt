@@ -8,13 +8,16 @@
 
 mod calls;
 mod faults;
+mod memory_room;
 mod memory_sink;
 mod memory_source;
+mod names;
 mod rooms;
 mod sinks;
 mod sources;
 
 pub use faults::{Failed, OpenFault, ReadAll};
+pub use memory_room::MemRoom;
 pub use memory_sink::MemSink;
 pub use memory_source::MemSource;
 pub use rooms::Room;

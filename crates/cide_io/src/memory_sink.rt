@@ -2,7 +2,7 @@ ghost use Rattle.std.specs.Prelude.{◌≡◌, ◌<◌, ◌≤◌, length, is_er
 ghost use Rattle.std.specs.String.{string_bytes};
 ghost use Rattle.cide_io.specs.Faults.{HasCause, raised};
 ghost use Rattle.cide_io.specs.Known.{IsPut};
-ghost use Rattle.cide_io.specs.Memory.{MemoryOutput, is_listed, fresh_output};
+ghost use Rattle.cide_io.specs.Memory.{MemoryOutput, is_listed, fresh_output, shut_as};
 
 use crate::calls::Calls;
 use crate::faults::Failed;
@@ -71,6 +71,30 @@ impl MemSink {
             calls,
             faults: 0,
         })
+    }
+
+    /// The sink beside the name that it had. No memory is taken: the name moves, and an empty one stays.
+    pub(crate) fn put_away(self) -> (String, MemSink)
+        ensures { shut_as result ≡ record { name = self.name; held = Some self.held } }
+    {
+        let MemSink {
+            held,
+            name,
+            calls,
+            faults,
+        } = self;
+        let empty = String::new(*held.allocator());
+        let (name, left) = match name {
+            Some(name) => (name, Some(empty)),
+            None => (empty, None),
+        };
+        let sink = MemSink {
+            held,
+            name: left,
+            calls,
+            faults,
+        };
+        (name, sink)
     }
 
     /// Ends the sink, and gives its bytes.

@@ -22,10 +22,10 @@ preceded-preceded first second None = refl
 preceded-preceded first second (Some bytes) = ap Some (sym (append_assoc first second bytes))
 
 appended-take : (old now later : Known) (text : List ℕ) (done count : ℕ)
-  → now ≡ appended old (take done text) → later ≡ appended now (take count (drop done text)) → later ≡ appended old (take (done + count) text)
+    → now ≡ appended old (take done text) → later ≡ appended now (take count (drop done text)) → later ≡ appended old (take (done + count) text)
 appended-take old now later text done count p q =
     q ∙ ap (λ k. appended k (take count (drop done text))) p ∙ appended-appended old (take done text) (take count (drop done text))
-      ∙ ap (appended old) (sym (take-add done count text))
+    ∙ ap (appended old) (sym (take-add done count text))
 
 -- the rest of a text, as the code takes it
 abbrev pub rest_of : List ℕ → ℕ → List ℕ
@@ -33,13 +33,13 @@ rest_of text done = take (length text - done) (drop done text)
 
 -- One more piece of a text was put.
 pub put_more : (old now later : Known) (text : List ℕ) (done count : ℕ) (r : Result ℕ Failed)
-  → now ≡ appended old (take done text) → r ≡ Ok count → IsPut now later (rest_of text done) r → later ≡ appended old (take (done + count) text)
+    → now ≡ appended old (take done text) → r ≡ Ok count → IsPut now later (rest_of text done) r → later ≡ appended old (take (done + count) text)
 put_more old now later text done count r p is h =
     let put : later ≡ appended now (take count (rest_of text done)) = subst (IsPut now later (rest_of text done)) is h in
     appended-take old now later text done count p (put ∙ ap (λ t. appended now (take count t)) (take_rest text done))
 
 pub put_within : (text : List ℕ) (done count : ℕ) (r : Result ℕ Failed)
-  → done < length text → r ≡ Ok count → IfOk r (λ n. (0 < n) × (n ≤ length (rest_of text done))) → (0 < count) × (done + count ≤ length text)
+    → done < length text → r ≡ Ok count → IfOk r (λ n. (0 < n) × (n ≤ length (rest_of text done))) → (0 < count) × (done + count ≤ length text)
 put_within text done count r d is h =
     let P : Result ℕ Failed → Type 0 = λ v. IfOk v (λ n. (0 < n) × (n ≤ length (rest_of text done))) in
     let b : (0 < count) × (count ≤ length (rest_of text done)) = subst P is h in
@@ -47,29 +47,29 @@ put_within text done count r d is h =
     (b.0, omega arith)
 
 pub appended-whole : (old now : Known) (text : List ℕ) (done : ℕ)
-  → now ≡ appended old (take done text) → length text ≤ done → now ≡ appended old text
+    → now ≡ appended old (take done text) → length text ≤ done → now ≡ appended old text
 appended-whole old now text done p h = p ∙ ap (appended old) (take_all done text h)
 
 -- where it stops before the end of the text, a proper prefix was added
 pub IsCut-at : (old now : Known) (text : List ℕ) (done : ℕ)
-  → now ≡ appended old (take done text) → done < length text → IsCut old now text
+    → now ≡ appended old (take done text) → done < length text → IsCut old now text
 IsCut-at old now text done p h = record {
   front = take done text;
   back = drop done text;
   proper = omega (arith, length-drop done text);
   split = sym (take-append-drop done text);
-  gained = p
+  gained = p;
 }
 
 -- one more piece of what was left
 pub preceded-take : (old now later : Known) (came more : List ℕ)
-  → old ≡ preceded came now → now ≡ preceded more later → old ≡ preceded (came ++ more) later
+    → old ≡ preceded came now → now ≡ preceded more later → old ≡ preceded (came ++ more) later
 preceded-take old now later came more p q = p ∙ ap (preceded came) q ∙ preceded-preceded came more later
 
 -- No byte came, so the source is at its end.
 pub ends : (old now later : Known) (came into : List ℕ) (count : ℕ)
-  → old ≡ preceded came now → now ≡ preceded (take count into) later → count ≡ 0 → (count ≡ 0 → IsAtEnd now)
-  → (old ≡ preceded came later) × IsAtEnd later
+    → old ≡ preceded came now → now ≡ preceded (take count into) later → count ≡ 0 → (count ≡ 0 → IsAtEnd now)
+    → (old ≡ preceded came later) × IsAtEnd later
 ends old now later came into count p q z h =
     let P : ℕ → Type 0 = λ n. now ≡ preceded (take n into) later in
     let same : now ≡ later = subst P z q ∙ preceded-nil later in
@@ -81,7 +81,7 @@ length-with came into count h = omega (arith, length-append came (take count int
 
 -- what a take that succeeded gave
 pub taken : (now later : Known) (into : List ℕ) (count : ℕ) (r : Result ℕ Failed)
-  → r ≡ Ok count → IsTaken now later into r → (now ≡ preceded (take count into) later) × (count ≡ 0 → IsAtEnd now)
+    → r ≡ Ok count → IsTaken now later into r → (now ≡ preceded (take count into) later) × (count ≡ 0 → IsAtEnd now)
 taken now later into count r is h = subst (IsTaken now later into) is h
 
 pub taken_within : (into : List ℕ) (count : ℕ) (r : Result ℕ Failed) → r ≡ Ok count → IfOk r (λ n. n ≤ length into) → count ≤ length into
@@ -102,8 +102,8 @@ appended_len {E} old now more r u is h =
 
 -- What is left of some bytes begins with what was copied to the front of a slice.
 pub copied_front : (bytes given into copied tail : List ℕ) (taken count : ℕ)
-  → given ≡ bytes → count ≡ min (length (rest_of given taken)) (length into) → length copied ≡ length (take count into) → copied ≡ take count (rest_of given taken)
-  → drop taken bytes ≡ take count (copied ++ tail) ++ drop (taken + count) bytes
+    → given ≡ bytes → count ≡ min (length (rest_of given taken)) (length into) → length copied ≡ length (take count into) → copied ≡ take count (rest_of given taken)
+    → drop taken bytes ≡ take count (copied ++ tail) ++ drop (taken + count) bytes
 copied_front bytes given into copied tail taken count g m l p =
     let size : length copied ≡ count = omega (arith, length-take count into) in
     let rest : rest_of given taken ≡ drop taken bytes = take_rest given taken ∙ ap (drop taken) g in
@@ -112,6 +112,6 @@ copied_front bytes given into copied tail taken count g m l p =
 
 -- Where there was room and nothing was copied, nothing is left.
 pub nothing_left : (bytes given into : List ℕ) (taken count : ℕ)
-  → given ≡ bytes → count ≡ min (length (rest_of given taken)) (length into) → 0 < length into → count ≡ 0 → drop taken bytes ≡ []
+    → given ≡ bytes → count ≡ min (length (rest_of given taken)) (length into) → 0 < length into → count ≡ 0 → drop taken bytes ≡ []
 nothing_left bytes given into taken count g m h z =
     sym (take_rest given taken ∙ ap (drop taken) g) ∙ nil_from_length (rest_of given taken) (omega arith)

@@ -7,19 +7,30 @@
 #![tactic(auto)]
 
 mod calls;
+mod error_sink;
 mod faults;
+mod file_sink;
+mod file_source;
+mod host_room;
 mod memory_room;
 mod memory_sink;
 mod memory_source;
 mod names;
+mod output_sink;
 mod rooms;
 mod sinks;
 mod sources;
+mod writes;
 
+pub use error_sink::StdErrSink;
 pub use faults::{Failed, OpenFault, ReadAll};
+pub use file_sink::FileSink;
+pub use file_source::FileSource;
+pub use host_room::HostRoom;
 pub use memory_room::MemRoom;
 pub use memory_sink::MemSink;
 pub use memory_source::MemSource;
+pub use output_sink::StdOutSink;
 pub use rooms::Room;
 pub use sinks::{Sink, put_all};
 pub use sources::{Source, read_all};

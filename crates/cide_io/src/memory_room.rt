@@ -32,8 +32,15 @@ impl Model for MemRoom {
     ghost Value = { MemoryRoom };
 
     ghost view = { λ r. record {
-        inputs = named r.inputs.items; outs = named r.outs.items; shut = shut_list r.shut.items; fails = r.opens.fails.items;
-        opens = r.opens.made; open_outs = r.open_outs; read_faults = r.read_faults; write_faults = r.write_faults } };
+      inputs = named r.inputs.items;
+      outs = named r.outs.items;
+      shut = shut_list r.shut.items;
+      fails = r.opens.fails.items;
+      opens = r.opens.made;
+      open_outs = r.open_outs;
+      read_faults = r.read_faults;
+      write_faults = r.write_faults;
+    } };
 
     // To shut an output takes no memory, so there is room for each that is open.
     ghost invariant = { λ r. vec_len r.shut + r.open_outs ≤ vec_capacity r.shut };
@@ -48,8 +55,15 @@ impl MemRoom {
         fails: Vec<u64>,
     ) -> Self
         ensures { result ≡ record {
-            inputs = named inputs.items; outs = named outs.items; shut = []; fails = fails.items;
-            opens = 0; open_outs = 0; read_faults = 0; write_faults = 0 } }
+          inputs = named inputs.items;
+          outs = named outs.items;
+          shut = [];
+          fails = fails.items;
+          opens = 0;
+          open_outs = 0;
+          read_faults = 0;
+          write_faults = 0;
+        } }
     {
         MemRoom {
             inputs,
@@ -108,8 +122,9 @@ impl Room for MemRoom {
         ensures later { self.old.read_faults ≤ self.new.read_faults }
         ensures copy { IfOk result (λ source. Some source ≡ option_map fresh_input (opened self.old.fails self.old.opens self.old.inputs name.now)) }
         ensures after { self.new ≡ record self.old {
-            opens = raised self.old.opens;
-            read_faults = (if is_none (opened self.old.fails self.old.opens self.old.inputs name.now) then raised self.old.read_faults else self.old.read_faults) } }
+          opens = raised self.old.opens;
+          read_faults = (if is_none (opened self.old.fails self.old.opens self.old.inputs name.now) then raised self.old.read_faults else self.old.read_faults);
+        } }
     {
         match open_next(&mut self.opens, self.inputs.as_slice(), name) {
             Some(source) => match source.fresh() {
@@ -130,9 +145,10 @@ impl Room for MemRoom {
         ensures later { self.old.write_faults ≤ self.new.write_faults }
         ensures copy { IfOk result (λ out. Some out ≡ option_map (λ sink. fresh_output sink name.now) (opened self.old.fails self.old.opens self.old.outs name.now)) }
         ensures after { self.new ≡ record self.old {
-            opens = raised self.old.opens;
-            open_outs = (if is_ok result then self.old.open_outs + 1 else self.old.open_outs);
-            write_faults = (if is_none (opened self.old.fails self.old.opens self.old.outs name.now) then raised self.old.write_faults else self.old.write_faults) } }
+          opens = raised self.old.opens;
+          open_outs = (if is_ok result then self.old.open_outs + 1 else self.old.open_outs);
+          write_faults = (if is_none (opened self.old.fails self.old.opens self.old.outs name.now) then raised self.old.write_faults else self.old.write_faults);
+        } }
     {
         match open_next(&mut self.opens, self.outs.as_slice(), name) {
             Some(sink) => {
@@ -168,9 +184,10 @@ impl Room for MemRoom {
         requires { 0 < self.old.open_outs }
         ensures cause { IsPassedOn out.faults self.old.write_faults self.new.write_faults }
         ensures after { self.new ≡ record self.old {
-            shut = self.old.shut ++ (record { name = out.name; held = Some out.held }) ∷ [];
-            open_outs = self.old.open_outs - 1;
-            write_faults = passed_on out.faults self.old.write_faults } }
+          shut = self.old.shut ++ (record { name = out.name; held = Some out.held }) ∷ [];
+          open_outs = self.old.open_outs - 1;
+          write_faults = passed_on out.faults self.old.write_faults;
+        } }
     {
         if out.faults() > 0 {
             self.write_faults = self.write_faults.saturating_add(1);

@@ -19,11 +19,7 @@ pub fn first_named<'a, X>(pairs: &'a [(String, X)], name: &str) -> Option<&'a X>
 }
 
 /// Counts one more open, and gives the object of this name where the open doesn't fail.
-pub fn open_next<'a, X>(
-    opens: &mut Calls,
-    pairs: &'a [(String, X)],
-    name: &str,
-) -> Option<&'a X>
+pub fn open_next<'a, X>(opens: &mut Calls, pairs: &'a [(String, X)], name: &str) -> Option<&'a X>
     ensures found { option_copied result ≡ opened opens.old.fails.items opens.old.made (named pairs.now) name.now }
     ensures same { opens.new.fails ≡ opens.old.fails }
     ensures counted { opens.new.made ≡ raised opens.old.made }

@@ -9,5 +9,5 @@ pieces-preserved g c =
       within = w.1;
       added = put_more _ _ _ c.args.piece.now c.pieces.done c.in-Ok.count c.put.result c.pieces.invariant.added c.in-Ok.is c.put.ensures.bytes;
       named = c.put.ensures.named ∙ c.pieces.invariant.named;
-      later = le_trans c.pieces.invariant.later c.put.ensures.cause.later
+      later = le_trans c.pieces.invariant.later c.put.ensures.cause.later;
     }

@@ -7,7 +7,7 @@ invariant-pieces g l = record {
   within : l.done ≤ length l.piece;
   added : g.K.Sink.held l.sink ≡ appended (g.K.Sink.held l.fn.sink) (take l.done l.piece);
   named : g.K.Sink.name l.sink ≡ g.K.Sink.name l.fn.sink;
-  later : g.K.Sink.faults l.fn.sink ≤ g.K.Sink.faults l.sink
+  later : g.K.Sink.faults l.fn.sink ≤ g.K.Sink.faults l.sink;
 }
 
 abbrev pub decreases-pieces : goal.decreases-pieces

@@ -7,7 +7,7 @@ invariant-pieces g l = record {
   sized : vec_len l.piece ≡ 65536;
   within : vec_len l.all ≤ l.limit;
   came : g.S.Source.left l.fn.source ≡ preceded l.all.items (g.S.Source.left l.source);
-  later : g.S.Source.faults l.fn.source ≤ g.S.Source.faults l.source
+  later : g.S.Source.faults l.fn.source ≤ g.S.Source.faults l.source;
 }
 
 abbrev pub decreases-pieces : goal.decreases-pieces

@@ -1,9 +1,10 @@
 ghost use Rattle.std.specs.Prelude.{◌≡◌, None};
 
 use crate::faults::OpenFault;
-use crate::file_sink::FileSink;
-use crate::file_source::FileSource;
+use crate::passing::pass_on;
+use crate::reader_source::FileSource;
 use crate::rooms::Room;
+use crate::writer_sink::FileSink;
 use std::fs::File;
 use std::rt::Files;
 
@@ -66,16 +67,12 @@ impl<'a, R: Files<File = File>> Room for HostRoom<'a, R> {
     }
 
     fn shut_in(&mut self, source: FileSource) {
-        if source.faults() > 0 {
-            self.read_faults = self.read_faults.saturating_add(1);
-        }
+        pass_on(source.faults(), &mut self.read_faults);
         source.close();
     }
 
     fn shut(&mut self, out: FileSink) {
-        if out.faults() > 0 {
-            self.write_faults = self.write_faults.saturating_add(1);
-        }
+        pass_on(out.faults(), &mut self.write_faults);
         out.close();
     }
 }

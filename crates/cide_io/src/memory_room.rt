@@ -8,10 +8,12 @@ use crate::faults::OpenFault;
 use crate::memory_sink::MemSink;
 use crate::memory_source::MemSource;
 use crate::names::{end_all, open_next};
+use crate::passing::pass_on;
 use crate::rooms::Room;
 use std::marker::Model;
 
-/// A room over objects in memory. It tells everything, and fails exactly at the opens that it is told.
+/// A room over objects in memory, which tells everything. An open fails where its number is listed or no object has that
+/// name, and else at most for want of memory.
 ///
 /// It is taken apart by [`MemRoom::close`], and is not dropped.
 pub struct MemRoom {
@@ -42,7 +44,7 @@ impl Model for MemRoom {
       write_faults = r.write_faults;
     } };
 
-    // To shut an output takes no memory, so there is room for each that is open.
+    // There is room in the list of shut outputs for each that is open.
     ghost invariant = { λ r. vec_len r.shut + r.open_outs ≤ vec_capacity r.shut };
 }
 
@@ -83,6 +85,27 @@ impl MemRoom {
         self.shut.as_slice()
     }
 
+    /// How many outputs are open.
+    pub fn open_outs(&self) -> usize
+        ensures { result ≡ self.now.open_outs }
+    {
+        self.open_outs
+    }
+
+    /// How many read faults were counted.
+    pub fn read_faults(&self) -> u64
+        ensures { result ≡ self.now.read_faults }
+    {
+        self.read_faults
+    }
+
+    /// How many write faults were counted.
+    pub fn write_faults(&self) -> u64
+        ensures { result ≡ self.now.write_faults }
+    {
+        self.write_faults
+    }
+
     /// Ends the room and all that it keeps.
     pub fn close(self) {
         let MemRoom {
@@ -115,9 +138,9 @@ impl Room for MemRoom {
 
     ghost write_faults = { λ room. room.write_faults };
 
+    /// Gives a copy of what is left of the input.
     fn open_in(&mut self, name: &str) -> Result<MemSource, OpenFault>
-        // It fails exactly where the number of the open is listed or there is no such name, and else at most for want of
-        // memory.
+        // It fails exactly where the number of the open is listed or no object has that name.
         ensures fails { (result ≡ Err OpenFault.Failed) ↔ IsNone (opened self.old.fails self.old.opens self.old.inputs name.now) }
         ensures later { self.old.read_faults ≤ self.new.read_faults }
         ensures copy { IfOk result (λ source. Some source ≡ option_map fresh_input (opened self.old.fails self.old.opens self.old.inputs name.now)) }
@@ -138,9 +161,9 @@ impl Room for MemRoom {
         }
     }
 
+    /// Keeps room in the list of shut outputs for each that is open, since to shut one takes no memory.
     fn open_out(&mut self, name: &str) -> Result<MemSink, OpenFault>
-        // It fails exactly where the number of the open is listed or there is no such name, and else at most for want of
-        // memory.
+        // It fails exactly where the number of the open is listed or no object has that name.
         ensures fails { (result ≡ Err OpenFault.Failed) ↔ IsNone (opened self.old.fails self.old.opens self.old.outs name.now) }
         ensures later { self.old.write_faults ≤ self.new.write_faults }
         ensures copy { IfOk result (λ out. Some out ≡ option_map (λ sink. fresh_output sink name.now) (opened self.old.fails self.old.opens self.old.outs name.now)) }
@@ -174,9 +197,7 @@ impl Room for MemRoom {
         ensures cause { IsPassedOn source.faults self.old.read_faults self.new.read_faults }
         ensures after { self.new ≡ record self.old { read_faults = passed_on source.faults self.old.read_faults } }
     {
-        if source.faults() > 0 {
-            self.read_faults = self.read_faults.saturating_add(1);
-        }
+        pass_on(source.faults(), &mut self.read_faults);
         source.close();
     }
 
@@ -189,9 +210,7 @@ impl Room for MemRoom {
           write_faults = passed_on out.faults self.old.write_faults;
         } }
     {
-        if out.faults() > 0 {
-            self.write_faults = self.write_faults.saturating_add(1);
-        }
+        pass_on(out.faults(), &mut self.write_faults);
         self.open_outs -= 1;
         self.shut.push_reserved(out.put_away());
     }

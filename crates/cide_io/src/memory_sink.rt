@@ -10,7 +10,8 @@ use crate::sinks::Sink;
 use std::alloc::AllocError;
 use std::marker::Model;
 
-/// A sink that keeps its bytes in memory. It fails at the calls that it is told, and where there is no memory for a piece.
+/// A sink that keeps its bytes in memory, and tells everything. A call fails where its number is listed, and where there is
+/// no memory for the piece.
 ///
 /// It is given back by [`MemSink::close`] or to its room, and is not dropped.
 pub struct MemSink {

@@ -9,7 +9,7 @@ use crate::sources::Source;
 use std::alloc::AllocError;
 use std::marker::Model;
 
-/// A source over bytes in memory, which fails exactly at the calls that it is told.
+/// A source over bytes in memory, which tells everything. A call fails exactly where its number is listed.
 ///
 /// It is given back by [`MemSource::close`] or to its room, and is not dropped.
 pub struct MemSource {

@@ -1,4 +1,4 @@
-use Rattle.std.proofs.Common.{length, ◌+◌, ◌-◌, ◌≡◌, ◌≤◌, vec_len}
+use Rattle.std.proofs.Common.{◌+◌, ◌-◌, ◌≡◌, ◌≤◌, vec_len}
 use Rattle.cide_io.specs.Known.{preceded}
 use Rattle.cide_io.proofs.sources.read_all.Given as goal
 

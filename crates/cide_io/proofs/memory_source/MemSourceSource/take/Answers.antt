@@ -1,4 +1,4 @@
-use Rattle.std.proofs.Common.{◌≡◌, ◌++◌, drop, Some, ap, sym, ◌∙◌, arith}
+use Rattle.std.proofs.Common.{◌≡◌, drop, Some, ap, sym, ◌∙◌}
 use Rattle.cide_io.specs.Memory.{MemoryInput}
 use Rattle.cide_io.proofs.Pieces.{copied_front, nothing_left}
 use Rattle.cide_io.proofs.memory_source.MemSourceSource.take.Goals as goal

@@ -1,13 +1,9 @@
 -- Known bytes with more behind them or in front of them, piece after piece.
 use Rattle.std.proofs.Common.{◌≡◌, ℕ, ◌+◌, ◌<◌, ◌≤◌, List, [], ◌++◌, length, take, drop, Some, None, refl, ap, sym, ◌∙◌, arith, append_assoc, subst, length-append, ◌-◌, Result, Ok, IfOk, is_ok, if◌then◌else◌, min}
-use Rattle.std.proofs.lemmas.List.{append-nil, take-append-drop, length-drop, length-take, take_rest, take-append-le, drop-drop, nil_from_length}
+use Rattle.std.proofs.lemmas.List.{take-append-drop, length-drop, length-take, take_rest, take-append-le, drop-drop, nil_from_length}
 use Rattle.std.proofs.Math.Seq.{take-add, take_all}
-use Rattle.cide_io.specs.Known.{Known, appended, preceded, IsAtEnd, IsCut, IsPut, IsTaken}
+use Rattle.cide_io.specs.Known.{Known, appended, preceded, IsAtEnd, IsPut, IsTaken}
 use Rattle.cide_io.specs.declared.faults.Failed.{Failed}
-
-pub appended-nil : (old : Known) → appended old [] ≡ old
-appended-nil None = refl
-appended-nil (Some bytes) = ap Some (append-nil bytes)
 
 pub appended-appended : (old : Known) (first second : List ℕ) → appended (appended old first) second ≡ appended old (first ++ second)
 appended-appended None first second = refl
@@ -46,21 +42,6 @@ put_within text done count r d is h =
     let e : length (rest_of text done) ≡ length text - done = ap length (take_rest text done) ∙ length-drop done text in
     (b.0, omega arith)
 
-pub appended-whole : (old now : Known) (text : List ℕ) (done : ℕ)
-    → now ≡ appended old (take done text) → length text ≤ done → now ≡ appended old text
-appended-whole old now text done p h = p ∙ ap (appended old) (take_all done text h)
-
--- where it stops before the end of the text, a proper prefix was added
-pub IsCut-at : (old now : Known) (text : List ℕ) (done : ℕ)
-    → now ≡ appended old (take done text) → done < length text → IsCut old now text
-IsCut-at old now text done p h = record {
-  front = take done text;
-  back = drop done text;
-  proper = omega (arith, length-drop done text);
-  split = sym (take-append-drop done text);
-  gained = p;
-}
-
 -- one more piece of what was left
 pub preceded-take : (old now later : Known) (came more : List ℕ)
     → old ≡ preceded came now → now ≡ preceded more later → old ≡ preceded (came ++ more) later
@@ -95,10 +76,6 @@ written_back into rest n e = take-append-le n into rest (omega arith) ∙ take_a
 pub appended_items : {E : Type 0} (old now more : List ℕ) (r : Result Unit E) (u : Unit) → r ≡ Ok u → now ≡ (if is_ok r then old ++ more else old) → now ≡ old ++ more
 appended_items {E} old now more r u is h =
     let P : Result Unit E → Type 0 = λ v. now ≡ (if is_ok v then old ++ more else old) in subst P is h
-
-pub appended_len : {E : Type 0} (old now more : ℕ) (r : Result Unit E) (u : Unit) → r ≡ Ok u → now ≡ (if is_ok r then old + more else old) → now ≡ old + more
-appended_len {E} old now more r u is h =
-    let P : Result Unit E → Type 0 = λ v. now ≡ (if is_ok v then old + more else old) in subst P is h
 
 -- What is left of some bytes begins with what was copied to the front of a slice.
 pub copied_front : (bytes given into copied tail : List ℕ) (taken count : ℕ)

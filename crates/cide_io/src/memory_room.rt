@@ -1,4 +1,4 @@
-ghost use Rattle.std.specs.Prelude.{◌≡◌, ◌↔◌, ℕ, ◌+◌, ◌-◌, ◌<◌, ◌≤◌, List, [], ◌∷◌, ◌++◌, is_ok, is_none, if◌then◌else◌, option_map, IfOk, IsNone, Some, Err};
+ghost use Rattle.std.specs.Prelude.{◌≡◌, ◌↔◌, ℕ, ◌+◌, ◌-◌, ◌<◌, ◌≤◌, List, [], ◌∷◌, ◌++◌, is_ok, is_none, if◌then◌else◌, option_map, IfOk, OnOk, OnErr, IsNone, Some, None, Err};
 ghost use Rattle.cide_io.specs.Faults.{raised};
 ghost use Rattle.cide_io.specs.Rooms.{IsPassedOn};
 ghost use Rattle.cide_io.specs.Memory.{MemoryRoom, named, look_up, opened, fresh_input, fresh_output, passed_on, shut_list};
@@ -10,6 +10,7 @@ use crate::memory_source::MemSource;
 use crate::names::{end_all, open_next};
 use crate::passing::pass_on;
 use crate::rooms::Room;
+use std::alloc::AllocError;
 use std::marker::Model;
 
 /// A room over objects in memory, which tells everything. An open fails where its number is listed or no object has that
@@ -76,6 +77,34 @@ impl MemRoom {
             read_faults: 0,
             write_faults: 0,
         }
+    }
+
+    /// Adds an input behind the others. Where there is no memory the room is as before.
+    pub fn add_input(&mut self, name: &str, bytes: &[u8], fails: &[u64]) -> Result<(), AllocError>
+        ensures added { OnOk result (self.new ≡ record self.old { inputs = self.old.inputs ++ (name.now, record { left = bytes.now; fails = fails.now; calls = 0; faults = 0 }) ∷ [] }) }
+        ensures same { OnErr result (self.new ≡ self.old) }
+    {
+        let alloc = *self.inputs.allocator();
+        self.inputs.reserve(1)?;
+        let name = String::from_str(alloc, name)?;
+        let bytes = Vec::from_slice(alloc, bytes)?;
+        let fails = Vec::from_slice(alloc, fails)?;
+        self.inputs
+            .push_reserved((name, MemSource::new(bytes, fails)));
+        Ok(())
+    }
+
+    /// Adds an output behind the others. Where there is no memory the room is as before.
+    pub fn add_out(&mut self, name: &str, fails: &[u64]) -> Result<(), AllocError>
+        ensures added { OnOk result (self.new ≡ record self.old { outs = self.old.outs ++ (name.now, record { held = []; name = None; fails = fails.now; calls = 0; faults = 0 }) ∷ [] }) }
+        ensures same { OnErr result (self.new ≡ self.old) }
+    {
+        let alloc = *self.outs.allocator();
+        self.outs.reserve(1)?;
+        let name = String::from_str(alloc, name)?;
+        let fails = Vec::from_slice(alloc, fails)?;
+        self.outs.push_reserved((name, MemSink::new(fails)));
+        Ok(())
     }
 
     /// The outputs that were shut, in order, each beside the name by which it was opened.

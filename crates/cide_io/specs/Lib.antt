@@ -1,3 +1,4 @@
 pub mod Faults
 pub mod Known
 pub mod Rooms
+pub mod Memory

@@ -1,5 +1,5 @@
 -- What a room tells of the objects that it opens and shuts.
-use Rattle.std.specs.Prelude.{◌≡◌, ℕ, suc, zero, ◌+◌, ◌<◌, ◌≤◌, List, [], ◌∷◌, ◌++◌, Option, Some, None, option_map}
+use Rattle.std.specs.Prelude.{◌≡◌, ℕ, suc, zero, ◌<◌, ◌≤◌, List, [], ◌∷◌, ◌++◌, Option, Some, None}
 use Rattle.cide_io.specs.Known.{Known}
 use Rattle.cide_io.specs.Faults.{Rose}
 

@@ -1,8 +1,13 @@
-ghost use Rattle.std.specs.Prelude.{◌≡◌, ℕ, ◌<◌, ◌≤◌, length, IfOk};
-ghost use Rattle.cide_io.specs.Faults.{HasCause};
-ghost use Rattle.cide_io.specs.Known.{Known, IsTaken};
+ghost use Rattle.std.specs.Prelude.{◌≡◌, ℕ, ◌<◌, ◌≤◌, ◌^◌, length, IfOk, Err};
+ghost use Rattle.std.specs.Vec.{vec_len};
+ghost use Rattle.cide_io.specs.Faults.{HasCause, Rose};
+ghost use Rattle.cide_io.specs.Known.{Known, IsTaken, IsReadAll};
 
-use crate::faults::Failed;
+use crate::faults::{Failed, ReadAll};
+use std::alloc::{AllocError, Global};
+
+/// The bytes that one call asks a source for.
+const PIECE: usize = 65_536;
 
 /// Bytes that are pulled in order.
 ///
@@ -21,4 +26,42 @@ pub trait Source {
         ensures bytes { IsTaken (left self.old) (left self.new) into.new result }
         // A failure comes only where the count rose.
         ensures cause { HasCause (faults self.old) (faults self.new) result };
+}
+
+/// A buffer of so many bytes.
+fn zeros(alloc: Global, count: usize) -> Result<Vec<u8>, AllocError>
+    ensures { IfOk result (λ buffer. vec_len buffer ≡ count) }
+{
+    vec![in alloc; 0u8; count]
+}
+
+/// Reads a source to its end, in pieces of [`PIECE`] bytes at most. A source with more bytes than the limit is too long,
+/// whatever comes behind them.
+pub fn read_all<S: Source>(alloc: Global, source: &mut S, limit: usize) -> Result<Vec<u8>, ReadAll>
+    requires { limit < 2 ^ 62 }
+    ensures bytes { IsReadAll limit (S.left source.old) (S.left source.new) result }
+    ensures later { S.faults source.old ≤ S.faults source.new }
+    ensures cause { result ≡ Err ReadAll.ReadFault → Rose (S.faults source.old) (S.faults source.new) }
+{
+    let mut piece = match zeros(alloc, PIECE) {
+        Ok(piece) => piece,
+        Err(_) => return Err(ReadAll::NoMemory),
+    };
+    let mut all = Vec::new(alloc);
+    'pieces: loop {
+        let count = match source.take(piece.as_mut_slice()) {
+            Ok(count) => count,
+            Err(_) => return Err(ReadAll::ReadFault),
+        };
+        if count == 0 {
+            return Ok(all);
+        }
+        if limit - all.len() < count {
+            return Err(ReadAll::TooLong);
+        }
+        match all.extend_from_slice(&piece[..count]) {
+            Ok(()) => {}
+            Err(_) => return Err(ReadAll::NoMemory),
+        }
+    }
 }

@@ -1,0 +1,103 @@
+-- How what two calls add is what one adds.
+use Rattle.std.proofs.Common.{◌≡◌, refl, sym, ap, ◌∙◌, ℕ, ◌+◌, ◌<◌, ◌≤◌, List, [], ◌++◌, length, take, drop, Result, Ok, Err, OnErr, Option, Some, None, length-append, append-nil, arith}
+use Rattle.std.proofs.lemmas.List.{append_assoc, take-append-drop, length-drop}
+use Rattle.cide_io.specs.declared.faults.Failed.{Failed}
+use Rattle.cide_io.specs.Faults.{HasCause, Rose, last_count}
+use Rattle.cide_io.specs.Known.{Known, appended, IsCut}
+use Rattle.fj_printer.specs.Adds.{Outlet, outlet, IsPassed, IsTaken, Adds}
+
+appended_twice : (known : Known) (x y : List ℕ) → appended (appended known x) y ≡ appended known (x ++ y)
+appended_twice None x y = refl
+appended_twice (Some bytes) x y = ap Some (append_assoc bytes x y)
+
+rose_since : (a b c : ℕ) → a ≤ b → Rose b c → Rose a c
+rose_since a b c l r = omega arith
+
+pub cause_then : {X F T E : Type 0} {a b c : ℕ} {q : Result X F} {r : Result T E} → HasCause a b q → HasCause b c r → HasCause a c r
+cause_then {a = a} {b = b} {c = c} {r = Ok x} h k = record { later = omega arith; cause = tt }
+cause_then {a = a} {b = b} {c = c} {r = Err x} h k = record { later = omega arith; cause = rose_since a b c h.later k.cause }
+
+-- the bytes on both sides of a seam
+regrouped : (before p q sent after : List ℕ) → before ++ p ≡ sent ++ after → before ++ (p ++ q) ≡ sent ++ (after ++ q)
+regrouped before p q sent after e =
+    sym (append_assoc before p q) ∙ ap (λ w. w ++ q) e ∙ append_assoc sent after q
+
+passed_then : {a b c : Outlet} {p q : List ℕ} → IsPassed a b p → IsPassed b c q → IsPassed a c (p ++ q)
+passed_then {a} {b} {c} {p} {q} h k = record {
+  sent = h.sent ++ k.sent;
+  split = regrouped a.pending p q h.sent b.pending h.split ∙ ap (λ w. h.sent ++ w) k.split ∙ sym (append_assoc h.sent k.sent c.pending);
+  gained = k.gained ∙ ap (λ w. appended w k.sent) h.gained ∙ appended_twice a.held h.sent k.sent;
+}
+
+cut_then : {a b : Outlet} {p : List ℕ} (c : Outlet) (q : List ℕ) → IsPassed a b p → IsCut b.held c.held (b.pending ++ q) → IsCut a.held c.held (a.pending ++ (p ++ q))
+cut_then {a} {b} {p} c q h k = record {
+  front = h.sent ++ k.front;
+  back = k.back;
+  proper = k.proper;
+  split = regrouped a.pending p q h.sent b.pending h.split ∙ ap (λ w. h.sent ++ w) k.split ∙ sym (append_assoc h.sent k.front k.back);
+  gained = k.gained ∙ ap (λ w. appended w k.front) h.gained ∙ appended_twice a.held h.sent k.front;
+}
+
+cut_before : {old new : Known} (before p q : List ℕ) → IsCut old new (before ++ p) → IsCut old new (before ++ (p ++ q))
+cut_before before p q k = record {
+  front = k.front;
+  back = k.back ++ q;
+  proper = let h = k.proper in omega (arith, length-append k.back q);
+  split = regrouped before p q k.front k.back k.split;
+  gained = k.gained;
+}
+
+-- one text, and then another
+pub adds_then : {a b c : Outlet} {p q : List ℕ} {u : Unit {0}} {r : Result Unit Failed} → Adds a b p (Ok u) → Adds b c q r → Adds a c (p ++ q) r
+adds_then {a} {b} {c} {p} {q} {r = Ok v} h k = record {
+  taken = passed_then h.taken k.taken;
+  named = k.named ∙ h.named;
+  cause = cause_then h.cause k.cause;
+}
+adds_then {a} {b} {c} {p} {q} {r = Err e} h k = record {
+  taken = cut_then c q h.taken k.taken;
+  named = k.named ∙ h.named;
+  cause = cause_then h.cause k.cause;
+}
+
+-- a text after which nothing more is tried
+pub adds_before : {a b : Outlet} {p : List ℕ} {e : Failed} (q : List ℕ) → Adds a b p (Err e) → Adds a b (p ++ q) (Err e)
+adds_before {a} {p = p} q h = record { taken = cut_before a.pending p q h.taken; named = h.named; cause = h.cause }
+
+gained_nothing : (known : Known) → known ≡ appended known []
+gained_nothing None = refl
+gained_nothing (Some bytes) = ap Some (sym (append-nil bytes))
+
+-- nothing is done
+pub adds_nothing : (a : Outlet) (u : Unit {0}) → Adds a a [] (Ok u)
+adds_nothing a u = record {
+  taken = record { sent = []; split = append-nil a.pending; gained = gained_nothing a.held };
+  named = refl;
+  cause = record { later = omega arith; cause = tt };
+}
+
+-- the front of what waits goes to the sink
+pub adds_sent : (a b : Outlet) (n : ℕ) → b.held ≡ appended a.held (take n a.pending) → b.pending ≡ drop n a.pending → b.name ≡ a.name → HasCause {T = ℕ} {E = Failed} a.faults b.faults (Ok n) → Adds a b [] (Ok tt)
+adds_sent a b n gained left named cause = record {
+  taken = record {
+    sent = take n a.pending;
+    split = append-nil a.pending ∙ sym (take-append-drop n a.pending) ∙ ap (λ w. take n a.pending ++ w) (sym left);
+    gained = gained;
+  };
+  named = named;
+  cause = record { later = cause.later; cause = tt };
+}
+
+-- the sink takes nothing of what waits
+pub adds_refused : (a b : Outlet) (e : Failed) → 0 < length a.pending → b.held ≡ a.held → b.name ≡ a.name → HasCause {T = ℕ} {E = Failed} a.faults b.faults (Err e) → Adds a b [] (Err e)
+adds_refused a b e waits held named cause = record {
+  taken = record {
+    front = [];
+    back = a.pending;
+    proper = waits;
+    split = append-nil a.pending;
+    gained = held ∙ gained_nothing a.held;
+  };
+  named = named;
+  cause = record { later = cause.later; cause = cause.cause };
+}

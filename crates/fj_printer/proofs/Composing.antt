@@ -1,5 +1,5 @@
 -- How what two calls add is what one adds.
-use Rattle.std.proofs.Common.{◌≡◌, refl, sym, ap, ◌∙◌, ℕ, ◌+◌, ◌<◌, ◌≤◌, List, [], ◌++◌, length, take, drop, Result, Ok, Err, OnErr, Option, Some, None, length-append, append-nil, arith}
+use Rattle.std.proofs.Common.{subst, IsErr, ◌≡◌, refl, sym, ap, ◌∙◌, ℕ, ◌+◌, ◌<◌, ◌≤◌, List, [], ◌++◌, length, take, drop, Result, Ok, Err, OnErr, Option, Some, None, length-append, append-nil, arith}
 use Rattle.std.proofs.lemmas.List.{append_assoc, take-append-drop, length-drop}
 use Rattle.cide_io.specs.declared.faults.Failed.{Failed}
 use Rattle.cide_io.specs.Faults.{HasCause, Rose, last_count}
@@ -100,4 +100,25 @@ adds_refused a b e waits held named cause = record {
   };
   named = named;
   cause = record { later = cause.later; cause = cause.cause };
+}
+
+-- after one more part all parts so far are added
+pub adds_more : {a b c : Outlet} {done part more : List ℕ} {u v w : Unit {0}} → Adds a b done (Ok u) → Adds b c part (Ok v) → more ≡ done ++ part → Adds a c more (Ok w)
+adds_more {a} {c = c} {w = w} h k e = let P : List ℕ → Type 0 = λ t. Adds a c t (Ok w) in subst P (sym e) (adds_then h k)
+
+-- where a part fails, the whole fails
+pub adds_stopped : {a b c : Outlet} {done part whole : List ℕ} {u : Unit {0}} {e : Failed} (rest : List ℕ) (result : Result Unit Failed) → IsErr result → Adds a b done (Ok u) → Adds b c part (Err e) → whole ≡ done ++ (part ++ rest) → Adds a c whole result
+adds_stopped {a} {c = c} {e = e} rest (Err f) is h k w =
+    let P : List ℕ → Type 0 = λ t. Adds a c t (Err f) in subst P (sym w) (adds_then h (adds_before rest (any k)))
+  where
+    any : {b c : Outlet} {t : List ℕ} → Adds b c t (Err e) → Adds b c t (Err f)
+    any h = record { taken = h.taken; named = h.named; cause = record { later = h.cause.later; cause = h.cause.cause } }
+adds_stopped rest (Ok u) is h k w = absurd (let no : ⊥ = cc is in no)
+
+-- a piece goes behind what waits
+pub adds_behind : (a b : Outlet) (piece : List ℕ) → b.held ≡ a.held → b.name ≡ a.name → b.faults ≡ a.faults → b.pending ≡ a.pending ++ piece → Adds a b piece (Ok tt)
+adds_behind a b piece held name faults pending = record {
+  taken = record { sent = []; split = sym pending; gained = held ∙ gained_nothing a.held };
+  named = name;
+  cause = record { later = omega arith; cause = tt };
 }

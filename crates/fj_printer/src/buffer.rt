@@ -6,6 +6,7 @@ use std::marker::Model;
 pub const ROOM: usize = 4096;
 
 /// Bytes on their way to a sink; contracts see the list of them.
+#[derive(Drop)]
 pub struct Buffer {
     bytes: [u8; 4096],
     len: usize,

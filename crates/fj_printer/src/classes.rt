@@ -1,49 +1,41 @@
-ghost use Rattle.cfj_model.specs.Print.{texts, texts_behind, joined, field_text, param_text, sent_text, assign_text, ctor_text, class_text};
+ghost use Rattle.cfj_model.specs.Print.{texts, field_text, class_text};
 ghost use Rattle.fj_printer.specs.Adds.{outlet, Adds};
+ghost use Rattle.fj_printer.specs.Parts.{class_head_text};
 
 use crate::buffer::Buffer;
+use crate::ctors::ctor;
 use crate::pieces::add_all;
-use cfj_model::{Class, Constructor, Field, Param, Sent};
+use cfj_model::{Class, Field, Items};
 use cide_io::{Failed, Sink};
 
-fn field<K: Sink>(buffer: &mut Buffer, sink: &mut K, field: &Field) -> Result<(), Failed>
-    ensures { Adds (outlet K.held K.name K.faults sink.old buffer.old) (outlet K.held K.name K.faults sink.new buffer.new) (field_text field.now) result }
+/// Adds a class, on lines.
+pub fn class<K: Sink>(buffer: &mut Buffer, sink: &mut K, class: &Class) -> Result<(), Failed>
+    ensures { Adds (outlet K.held K.name K.faults sink.old buffer.old) (outlet K.held K.name K.faults sink.new buffer.new) (class_text class.now) result }
 {
-    add_all(buffer, sink, &["  ", field.of.text(), " ", field.name.text(), ";\n"])
+    head(buffer, sink, class)?;
+    fields(buffer, sink, &class.fields)?;
+    ctor(buffer, sink, &class.name, &class.ctor)?;
+    add_all(buffer, sink, &["}\n"])
 }
 
-fn fields<K: Sink>(buffer: &mut Buffer, sink: &mut K, list: &[Field]) -> Result<(), Failed>
-    ensures { Adds (outlet K.held K.name K.faults sink.old buffer.old) (outlet K.held K.name K.faults sink.new buffer.new) (texts field_text list.now) result }
+fn head<K: Sink>(buffer: &mut Buffer, sink: &mut K, class: &Class) -> Result<(), Failed>
+    ensures { Adds (outlet K.held K.name K.faults sink.old buffer.old) (outlet K.held K.name K.faults sink.new buffer.new) (class_head_text class.now) result }
 {
+    add_all(buffer, sink, &["class ", class.name.text(), " extends ", class.parent.text(), " {\n"])
+}
+
+fn fields<K: Sink>(buffer: &mut Buffer, sink: &mut K, fields: &Items<Field>) -> Result<(), Failed>
+    ensures { Adds (outlet K.held K.name K.faults sink.old buffer.old) (outlet K.held K.name K.faults sink.new buffer.new) (texts field_text fields.now) result }
+{
+    let list = fields.slice();
     'fields: for item in list {
         field(buffer, sink, item)?;
     }
     Ok(())
 }
 
-fn assign<K: Sink>(buffer: &mut Buffer, sink: &mut K, assign: &Sent) -> Result<(), Failed>
-    ensures { Adds (outlet K.held K.name K.faults sink.old buffer.old) (outlet K.held K.name K.faults sink.new buffer.new) (assign_text assign.now) result }
+fn field<K: Sink>(buffer: &mut Buffer, sink: &mut K, field: &Field) -> Result<(), Failed>
+    ensures { Adds (outlet K.held K.name K.faults sink.old buffer.old) (outlet K.held K.name K.faults sink.new buffer.new) (field_text field.now) result }
 {
-    let name = assign.name.text();
-    add_all(buffer, sink, &[" this.", name, " = ", name, ";"])
-}
-
-fn assigns<K: Sink>(buffer: &mut Buffer, sink: &mut K, list: &[Sent]) -> Result<(), Failed>
-    ensures { Adds (outlet K.held K.name K.faults sink.old buffer.old) (outlet K.held K.name K.faults sink.new buffer.new) (texts assign_text list.now) result }
-{
-    'assigns: for item in list {
-        assign(buffer, sink, item)?;
-    }
-    Ok(())
-}
-
-fn params<K: Sink>(buffer: &mut Buffer, sink: &mut K, list: &[Param]) -> Result<(), Failed>
-    ensures { Adds (outlet K.held K.name K.faults sink.old buffer.old) (outlet K.held K.name K.faults sink.new buffer.new) (joined param_text list.now) result }
-{
-    let mut separator = "";
-    'params: for param in list {
-        add_all(buffer, sink, &[separator, param.of.text(), " ", param.name.text()])?;
-        separator = ", ";
-    }
-    Ok(())
+    add_all(buffer, sink, &["  ", field.of.text(), " ", field.name.text(), ";\n"])
 }

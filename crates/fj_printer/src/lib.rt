@@ -10,6 +10,7 @@
 
 mod buffer;
 mod classes;
+mod ctors;
 mod pieces;
 mod project;
 

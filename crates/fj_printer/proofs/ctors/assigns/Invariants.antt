@@ -1,7 +1,7 @@
 use Rattle.std.proofs.Common.{take, Ok}
 use Rattle.cfj_model.specs.Print.{texts, assign_text}
 use Rattle.fj_printer.specs.Adds.{outlet, Adds}
-use Rattle.fj_printer.proofs.classes.assigns.Given as goal
+use Rattle.fj_printer.proofs.ctors.assigns.Given as goal
 
 abbrev pub invariant-assigns : goal.invariant-assigns
 invariant-assigns g l =

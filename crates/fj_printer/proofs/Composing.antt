@@ -1,9 +1,9 @@
 -- How what two calls add is what one adds.
-use Rattle.std.proofs.Common.{subst, IsErr, ◌≡◌, refl, sym, ap, ◌∙◌, ℕ, ◌+◌, ◌<◌, ◌≤◌, List, [], ◌++◌, length, take, drop, Result, Ok, Err, OnErr, Option, Some, None, length-append, append-nil, arith}
+use Rattle.std.proofs.Common.{subst, OnOk, IsErr, ◌≡◌, refl, sym, ap, ◌∙◌, ℕ, ◌+◌, ◌<◌, ◌≤◌, List, [], ◌++◌, length, take, drop, Result, Ok, Err, OnErr, Option, Some, None, length-append, append-nil, arith}
 use Rattle.std.proofs.lemmas.List.{append_assoc, take-append-drop, length-drop}
 use Rattle.cide_io.specs.declared.faults.Failed.{Failed}
 use Rattle.cide_io.specs.Faults.{HasCause, Rose, last_count}
-use Rattle.cide_io.specs.Known.{Known, appended, IsCut}
+use Rattle.cide_io.specs.Known.{Known, appended, IsCut, IsAdded}
 use Rattle.fj_printer.specs.Adds.{Outlet, outlet, IsPassed, IsTaken, Adds}
 
 appended_twice : (known : Known) (x y : List ℕ) → appended (appended known x) y ≡ appended known (x ++ y)
@@ -122,3 +122,15 @@ adds_behind a b piece held name faults pending = record {
   named = name;
   cause = record { later = omega arith; cause = tt };
 }
+
+-- where a part fails, what was to come behind it doesn't matter
+pub adds_failed : {a b : Outlet} {p : List ℕ} {e : Failed} (rest : List ℕ) (result : Result Unit Failed) → IsErr result → Adds a b p (Err e) → Adds a b (p ++ rest) result
+adds_failed rest (Err f) is h = let k = adds_before rest h in record { taken = k.taken; named = k.named; cause = record { later = k.cause.later; cause = k.cause.cause } }
+adds_failed rest (Ok u) is h = absurd (let no : ⊥ = cc is in no)
+
+-- what is added when nothing waits before or after
+pub all_added : {a b : Outlet} {text : List ℕ} (result : Result Unit Failed) → a.pending ≡ [] → OnOk result (b.pending ≡ []) → Adds a b text result → IsAdded a.held b.held text result
+all_added {a} {text = text} (Ok u) nothing empty h =
+    let whole : text ≡ h.taken.sent = ap (λ w. w ++ text) (sym nothing) ∙ h.taken.split ∙ ap (λ w. h.taken.sent ++ w) empty ∙ append-nil h.taken.sent in
+    h.taken.gained ∙ ap (λ w. appended a.held w) (sym whole)
+all_added {a} {b} {text = text} (Err e) nothing empty h = let P : List ℕ → Type 0 = λ w. IsCut a.held b.held (w ++ text) in subst P nothing h.taken

@@ -8,18 +8,19 @@ pub const ROOM: usize = 4096;
 /// Bytes on their way to a sink; contracts see the list of them.
 #[derive(Drop)]
 pub struct Buffer {
-    bytes: [u8; 4096],
+    bytes: [u8; ROOM],
     len: usize,
 }
 
 impl Model for Buffer {
     ghost use Rattle.std.specs.Prelude.{ℕ, List, take, ◌≤◌};
+    ghost use Rattle.fj_printer.specs.declared.buffer.TheConstants.{ROOM};
 
     ghost Value = { List ℕ };
 
     ghost view = { λ b. take b.len b.bytes };
 
-    ghost invariant = { λ b. b.len ≤ 4096 };
+    ghost invariant = { λ b. b.len ≤ ROOM };
 }
 
 impl Buffer {
@@ -28,7 +29,7 @@ impl Buffer {
         ensures { result ≡ [] }
     {
         Buffer {
-            bytes: [0; 4096],
+            bytes: [0; ROOM],
             len: 0,
         }
     }

@@ -21,7 +21,17 @@ pub fn class<K: Sink>(buffer: &mut Buffer, sink: &mut K, class: &Class) -> Resul
 fn head<K: Sink>(buffer: &mut Buffer, sink: &mut K, class: &Class) -> Result<(), Failed>
     ensures { Adds (outlet K.held K.name K.faults sink.old buffer.old) (outlet K.held K.name K.faults sink.new buffer.new) (class_head_text class.now) result }
 {
-    add_all(buffer, sink, &["class ", class.name.text(), " extends ", class.parent.text(), " {\n"])
+    add_all(
+        buffer,
+        sink,
+        &[
+            "class ",
+            class.name.text(),
+            " extends ",
+            class.parent.text(),
+            " {\n",
+        ],
+    )
 }
 
 fn fields<K: Sink>(buffer: &mut Buffer, sink: &mut K, fields: &Items<Field>) -> Result<(), Failed>
@@ -37,5 +47,9 @@ fn fields<K: Sink>(buffer: &mut Buffer, sink: &mut K, fields: &Items<Field>) -> 
 fn field<K: Sink>(buffer: &mut Buffer, sink: &mut K, field: &Field) -> Result<(), Failed>
     ensures { Adds (outlet K.held K.name K.faults sink.old buffer.old) (outlet K.held K.name K.faults sink.new buffer.new) (field_text field.now) result }
 {
-    add_all(buffer, sink, &["  ", field.of.text(), " ", field.name.text(), ";\n"])
+    add_all(
+        buffer,
+        sink,
+        &["  ", field.of.text(), " ", field.name.text(), ";\n"],
+    )
 }

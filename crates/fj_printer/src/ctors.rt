@@ -9,7 +9,12 @@ use cfj_model::{Constructor, Items, Name, Param, Sent};
 use cide_io::{Failed, Sink};
 
 /// Adds the constructor of the class with this name, on a line.
-pub fn ctor<K: Sink>(buffer: &mut Buffer, sink: &mut K, name: &Name, ctor: &Constructor) -> Result<(), Failed>
+pub fn ctor<K: Sink>(
+    buffer: &mut Buffer,
+    sink: &mut K,
+    name: &Name,
+    ctor: &Constructor,
+) -> Result<(), Failed>
     ensures { Adds (outlet K.held K.name K.faults sink.old buffer.old) (outlet K.held K.name K.faults sink.new buffer.new) (ctor_text name.now ctor.now) result }
 {
     head(buffer, sink, name)?;
@@ -39,10 +44,19 @@ fn params<K: Sink>(buffer: &mut Buffer, sink: &mut K, params: &Items<Param>) -> 
     Ok(())
 }
 
-fn param<K: Sink>(buffer: &mut Buffer, sink: &mut K, separator: &str, param: &Param) -> Result<(), Failed>
+fn param<K: Sink>(
+    buffer: &mut Buffer,
+    sink: &mut K,
+    separator: &str,
+    param: &Param,
+) -> Result<(), Failed>
     ensures { Adds (outlet K.held K.name K.faults sink.old buffer.old) (outlet K.held K.name K.faults sink.new buffer.new) (separator.now ++ param_text param.now) result }
 {
-    add_all(buffer, sink, &[separator, param.of.text(), " ", param.name.text()])
+    add_all(
+        buffer,
+        sink,
+        &[separator, param.of.text(), " ", param.name.text()],
+    )
 }
 
 fn sends<K: Sink>(buffer: &mut Buffer, sink: &mut K, sends: &Items<Sent>) -> Result<(), Failed>
@@ -57,7 +71,12 @@ fn sends<K: Sink>(buffer: &mut Buffer, sink: &mut K, sends: &Items<Sent>) -> Res
     Ok(())
 }
 
-fn sent<K: Sink>(buffer: &mut Buffer, sink: &mut K, separator: &str, sent: &Sent) -> Result<(), Failed>
+fn sent<K: Sink>(
+    buffer: &mut Buffer,
+    sink: &mut K,
+    separator: &str,
+    sent: &Sent,
+) -> Result<(), Failed>
     ensures { Adds (outlet K.held K.name K.faults sink.old buffer.old) (outlet K.held K.name K.faults sink.new buffer.new) (separator.now ++ sent_text sent.now) result }
 {
     add_all(buffer, sink, &[separator, sent.name.text()])

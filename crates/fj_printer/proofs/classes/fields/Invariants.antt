@@ -6,6 +6,6 @@ use Rattle.fj_printer.proofs.classes.fields.Given as goal
 abbrev pub invariant-fields : goal.invariant-fields
 invariant-fields g l =
     Adds (outlet g.K.Sink.held g.K.Sink.name g.K.Sink.faults l.fn.sink l.fn.buffer)
-      (outlet g.K.Sink.held g.K.Sink.name g.K.Sink.faults l.sink l.buffer)
-      (texts field_text (take l.item-index l.list))
-      (Ok tt)
+    (outlet g.K.Sink.held g.K.Sink.name g.K.Sink.faults l.sink l.buffer)
+    (texts field_text (take l.item-index l.list))
+    (Ok tt)

@@ -6,6 +6,6 @@ use Rattle.fj_printer.proofs.ctors.assigns.Given as goal
 abbrev pub invariant-assigns : goal.invariant-assigns
 invariant-assigns g l =
     Adds (outlet g.K.Sink.held g.K.Sink.name g.K.Sink.faults l.fn.sink l.fn.buffer)
-      (outlet g.K.Sink.held g.K.Sink.name g.K.Sink.faults l.sink l.buffer)
-      (texts assign_text (take l.item-index l.list))
-      (Ok tt)
+    (outlet g.K.Sink.held g.K.Sink.name g.K.Sink.faults l.sink l.buffer)
+    (texts assign_text (take l.item-index l.list))
+    (Ok tt)

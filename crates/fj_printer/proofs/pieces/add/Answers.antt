@@ -8,7 +8,7 @@ use Rattle.fj_printer.proofs.pieces.add.Goals as goal
 pub returns-in_err-make_room : goal.returns-in_err-make_room
 returns-in_err-make_room g c =
     adds_stopped (drop c.fills.added c.args.text.now) c.from_residual.result c.from_residual.ensures.0 c.fills.invariant.adds c.in_err-make_room.ensures.adds
-      (sym (take-append-drop c.fills.added c.args.text.now))
+    (sym (take-append-drop c.fills.added c.args.text.now))
 
 pub fills-preserved : goal.fills-preserved
 fills-preserved g c =
@@ -21,7 +21,7 @@ fills-preserved g c =
       within = let bound = fill.bound in omega (arith, length-take (length text - c.fills.added) (drop c.fills.added text));
       adds = adds_more c.fills.invariant.adds
           (adds_then c.in_ok-make_room.ensures.adds
-            (adds_behind ready filled (take c.fill-added.result (drop c.fills.added text)) refl refl refl
-              (fill.bytes ∙ ap (λ w. c.make_room.new.buffer ++ take c.fill-added.result w) rest)))
+          (adds_behind ready filled (take c.fill-added.result (drop c.fills.added text)) refl refl refl
+          (fill.bytes ∙ ap (λ w. c.make_room.new.buffer ++ take c.fill-added.result w) rest)))
           (take-add c.fills.added c.fill-added.result text);
     }

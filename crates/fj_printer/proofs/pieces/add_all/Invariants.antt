@@ -6,6 +6,6 @@ use Rattle.fj_printer.proofs.pieces.add_all.Given as goal
 abbrev pub invariant-texts : goal.invariant-texts
 invariant-texts g l =
     Adds (outlet g.K.Sink.held g.K.Sink.name g.K.Sink.faults l.fn.sink l.fn.buffer)
-      (outlet g.K.Sink.held g.K.Sink.name g.K.Sink.faults l.sink l.buffer)
-      (texts (λ text. text.now) (take l.text-index l.list))
-      (Ok tt)
+    (outlet g.K.Sink.held g.K.Sink.name g.K.Sink.faults l.sink l.buffer)
+    (texts (λ text. text.now) (take l.text-index l.list))
+    (Ok tt)

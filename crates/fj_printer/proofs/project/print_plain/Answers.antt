@@ -14,17 +14,17 @@ returns-in_err-class-clause-text g c =
     let class = c.class.result.now in
     let err = c.from_residual.ensures.0 in
     all_added c.from_residual.result refl (IfOk-from_err c.from_residual.result (λ _. c.class-in-classes.new.buffer ≡ []) err)
-      (adds_stopped _ c.from_residual.result err c.classes.invariant c.in_err-class.ensures
-        (texts_there class_text classes c.classes.place class _ (omega arith)
-          (ap class_text (sym (get_or_from_slice_get classes c.classes.place class class c.class.ensures)))))
+    (adds_stopped _ c.from_residual.result err c.classes.invariant c.in_err-class.ensures
+    (texts_there class_text classes c.classes.place class _ (omega arith)
+    (ap class_text (sym (get_or_from_slice_get classes c.classes.place class class c.class.ensures)))))
 
 pub classes-preserved : goal.classes-preserved
 classes-preserved g c =
     let classes = c.args.project.now.classes in
     let class = c.class.result.now in
     adds_more c.classes.invariant c.in_ok-class.ensures
-      (texts_more class_text classes c.classes.place class _ (omega arith)
-        (ap class_text (sym (get_or_from_slice_get classes c.classes.place class class c.class.ensures))))
+    (texts_more class_text classes c.classes.place class _ (omega arith)
+    (ap class_text (sym (get_or_from_slice_get classes c.classes.place class class c.class.ensures))))
 
 pub returns-clause-text : goal.returns-clause-text
 returns-clause-text g c =
@@ -33,5 +33,5 @@ returns-clause-text g c =
     let after : Outlet = outlet g.K.Sink.held g.K.Sink.name g.K.Sink.faults c.flush.new.sink c.flush.new.buffer in
     let P : List ℕ → Type 0 = λ text. Adds before after text c.flush.result in
     let whole : texts class_text (take c.classes.place classes) ++ [] ≡ texts class_text classes =
-      append-nil (texts class_text (take c.classes.place classes)) ∙ ap (texts class_text) (take_all c.classes.place classes (omega arith)) in
+    append-nil (texts class_text (take c.classes.place classes)) ∙ ap (texts class_text) (take_all c.classes.place classes (omega arith)) in
     all_added c.flush.result refl c.flush.ensures.empty (subst P whole (adds_then c.classes.invariant c.flush.ensures.adds))

@@ -6,6 +6,6 @@ use Rattle.fj_printer.proofs.project.print_plain.Given as goal
 abbrev pub invariant-classes : goal.invariant-classes
 invariant-classes g l =
     Adds (outlet g.K.Sink.held g.K.Sink.name g.K.Sink.faults l.fn.sink [])
-      (outlet g.K.Sink.held g.K.Sink.name g.K.Sink.faults l.sink l.buffer)
-      (texts class_text (take l.place l.project.classes))
-      (Ok tt)
+    (outlet g.K.Sink.held g.K.Sink.name g.K.Sink.faults l.sink l.buffer)
+    (texts class_text (take l.place l.project.classes))
+    (Ok tt)

@@ -4,7 +4,7 @@ use Rattle.std.proofs.lemmas.List.{append_assoc, take-append-drop, length-drop}
 use Rattle.cide_io.specs.declared.faults.Failed.{Failed}
 use Rattle.cide_io.specs.Faults.{HasCause, Rose, last_count}
 use Rattle.cide_io.specs.Known.{Known, appended, IsCut, IsAdded}
-use Rattle.fj_printer.specs.Adds.{Outlet, outlet, IsPassed, IsTaken, Adds}
+use Rattle.fj_printer.specs.Adds.{Outlet, outlet, IsPassed, IsTaken, Carries}
 
 appended_twice : (known : Known) (x y : List ℕ) → appended (appended known x) y ≡ appended known (x ++ y)
 appended_twice None x y = refl
@@ -48,7 +48,7 @@ cut_before before p q k = record {
 }
 
 -- one text, and then another
-pub adds_then : {a b c : Outlet} {p q : List ℕ} {u : Unit {0}} {r : Result Unit Failed} → Adds a b p (Ok u) → Adds b c q r → Adds a c (p ++ q) r
+pub adds_then : {a b c : Outlet} {p q : List ℕ} {u : Unit {0}} {r : Result Unit Failed} → Carries a b p (Ok u) → Carries b c q r → Carries a c (p ++ q) r
 adds_then {a} {b} {c} {p} {q} {r = Ok v} h k = record {
   taken = passed_then h.taken k.taken;
   named = k.named ∙ h.named;
@@ -61,7 +61,7 @@ adds_then {a} {b} {c} {p} {q} {r = Err e} h k = record {
 }
 
 -- a text after which nothing more is tried
-pub adds_before : {a b : Outlet} {p : List ℕ} {e : Failed} (q : List ℕ) → Adds a b p (Err e) → Adds a b (p ++ q) (Err e)
+pub adds_before : {a b : Outlet} {p : List ℕ} {e : Failed} (q : List ℕ) → Carries a b p (Err e) → Carries a b (p ++ q) (Err e)
 adds_before {a} {p = p} q h = record { taken = cut_before a.pending p q h.taken; named = h.named; cause = h.cause }
 
 gained_nothing : (known : Known) → known ≡ appended known []
@@ -69,7 +69,7 @@ gained_nothing None = refl
 gained_nothing (Some bytes) = ap Some (sym (append-nil bytes))
 
 -- nothing is done
-pub adds_nothing : (a : Outlet) (u : Unit {0}) → Adds a a [] (Ok u)
+pub adds_nothing : (a : Outlet) (u : Unit {0}) → Carries a a [] (Ok u)
 adds_nothing a u = record {
   taken = record { sent = []; split = append-nil a.pending; gained = gained_nothing a.held };
   named = refl;
@@ -77,7 +77,7 @@ adds_nothing a u = record {
 }
 
 -- the front of what waits goes to the sink
-pub adds_sent : (a b : Outlet) (n : ℕ) → b.held ≡ appended a.held (take n a.pending) → b.pending ≡ drop n a.pending → b.name ≡ a.name → HasCause {T = ℕ} {E = Failed} a.faults b.faults (Ok n) → Adds a b [] (Ok tt)
+pub adds_sent : (a b : Outlet) (n : ℕ) → b.held ≡ appended a.held (take n a.pending) → b.pending ≡ drop n a.pending → b.name ≡ a.name → HasCause {T = ℕ} {E = Failed} a.faults b.faults (Ok n) → Carries a b [] (Ok tt)
 adds_sent a b n gained left named cause = record {
   taken = record {
     sent = take n a.pending;
@@ -89,7 +89,7 @@ adds_sent a b n gained left named cause = record {
 }
 
 -- the sink takes nothing of what waits
-pub adds_refused : (a b : Outlet) (e : Failed) → 0 < length a.pending → b.held ≡ a.held → b.name ≡ a.name → HasCause {T = ℕ} {E = Failed} a.faults b.faults (Err e) → Adds a b [] (Err e)
+pub adds_refused : (a b : Outlet) (e : Failed) → 0 < length a.pending → b.held ≡ a.held → b.name ≡ a.name → HasCause {T = ℕ} {E = Failed} a.faults b.faults (Err e) → Carries a b [] (Err e)
 adds_refused a b e waits held named cause = record {
   taken = record {
     front = [];
@@ -103,20 +103,20 @@ adds_refused a b e waits held named cause = record {
 }
 
 -- after one more part all parts so far are added
-pub adds_more : {a b c : Outlet} {done part more : List ℕ} {u v w : Unit {0}} → Adds a b done (Ok u) → Adds b c part (Ok v) → more ≡ done ++ part → Adds a c more (Ok w)
-adds_more {a} {c = c} {w = w} h k e = let P : List ℕ → Type 0 = λ t. Adds a c t (Ok w) in subst P (sym e) (adds_then h k)
+pub adds_more : {a b c : Outlet} {done part more : List ℕ} {u v w : Unit {0}} → Carries a b done (Ok u) → Carries b c part (Ok v) → more ≡ done ++ part → Carries a c more (Ok w)
+adds_more {a} {c = c} {w = w} h k e = let P : List ℕ → Type 0 = λ t. Carries a c t (Ok w) in subst P (sym e) (adds_then h k)
 
 -- where a part fails, the whole fails
-pub adds_stopped : {a b c : Outlet} {done part whole : List ℕ} {u : Unit {0}} {e : Failed} (rest : List ℕ) (result : Result Unit Failed) → IsErr result → Adds a b done (Ok u) → Adds b c part (Err e) → whole ≡ done ++ (part ++ rest) → Adds a c whole result
+pub adds_stopped : {a b c : Outlet} {done part whole : List ℕ} {u : Unit {0}} {e : Failed} (rest : List ℕ) (result : Result Unit Failed) → IsErr result → Carries a b done (Ok u) → Carries b c part (Err e) → whole ≡ done ++ (part ++ rest) → Carries a c whole result
 adds_stopped {a} {c = c} {e = e} rest (Err f) is h k w =
-    let P : List ℕ → Type 0 = λ t. Adds a c t (Err f) in subst P (sym w) (adds_then h (adds_before rest (any k)))
+    let P : List ℕ → Type 0 = λ t. Carries a c t (Err f) in subst P (sym w) (adds_then h (adds_before rest (any k)))
   where
-    any : {b c : Outlet} {t : List ℕ} → Adds b c t (Err e) → Adds b c t (Err f)
+    any : {b c : Outlet} {t : List ℕ} → Carries b c t (Err e) → Carries b c t (Err f)
     any h = record { taken = h.taken; named = h.named; cause = record { later = h.cause.later; cause = h.cause.cause } }
 adds_stopped rest (Ok u) is h k w = absurd (let no : ⊥ = cc is in no)
 
 -- a piece goes behind what waits
-pub adds_behind : (a b : Outlet) (piece : List ℕ) → b.held ≡ a.held → b.name ≡ a.name → b.faults ≡ a.faults → b.pending ≡ a.pending ++ piece → Adds a b piece (Ok tt)
+pub adds_behind : (a b : Outlet) (piece : List ℕ) → b.held ≡ a.held → b.name ≡ a.name → b.faults ≡ a.faults → b.pending ≡ a.pending ++ piece → Carries a b piece (Ok tt)
 adds_behind a b piece held name faults pending = record {
   taken = record { sent = []; split = sym pending; gained = held ∙ gained_nothing a.held };
   named = name;
@@ -124,12 +124,12 @@ adds_behind a b piece held name faults pending = record {
 }
 
 -- where a part fails, what was to come behind it doesn't matter
-pub adds_failed : {a b : Outlet} {p : List ℕ} {e : Failed} (rest : List ℕ) (result : Result Unit Failed) → IsErr result → Adds a b p (Err e) → Adds a b (p ++ rest) result
+pub adds_failed : {a b : Outlet} {p : List ℕ} {e : Failed} (rest : List ℕ) (result : Result Unit Failed) → IsErr result → Carries a b p (Err e) → Carries a b (p ++ rest) result
 adds_failed rest (Err f) is h = let k = adds_before rest h in record { taken = k.taken; named = k.named; cause = record { later = k.cause.later; cause = k.cause.cause } }
 adds_failed rest (Ok u) is h = absurd (let no : ⊥ = cc is in no)
 
 -- what is added when nothing waits before or after
-pub all_added : {a b : Outlet} {text : List ℕ} (result : Result Unit Failed) → a.pending ≡ [] → OnOk result (b.pending ≡ []) → Adds a b text result → IsAdded a.held b.held text result
+pub all_added : {a b : Outlet} {text : List ℕ} (result : Result Unit Failed) → a.pending ≡ [] → OnOk result (b.pending ≡ []) → Carries a b text result → IsAdded a.held b.held text result
 all_added {a} {text = text} (Ok u) nothing empty h =
     let whole : text ≡ h.taken.sent = ap (λ w. w ++ text) (sym nothing) ∙ h.taken.split ∙ ap (λ w. h.taken.sent ++ w) empty ∙ append-nil h.taken.sent in
     h.taken.gained ∙ ap (λ w. appended a.held w) (sym whole)

@@ -27,7 +27,12 @@ IsTaken old new text (Ok u) = IsPassed old new text
 IsTaken old new text (Err e) = IsCut old.held new.held (old.pending ++ text)
 
 -- The text was added, the sink kept its name, and a failure comes only where its count of faults rose.
-pub record Adds (old new : Outlet) (text : List ℕ) (result : Result Unit Failed) : Type 0 where
+pub record Carries (old new : Outlet) (text : List ℕ) (result : Result Unit Failed) : Type 0 where
   pub taken : IsTaken old new text result
   pub named : new.name ≡ old.name
   pub cause : HasCause old.faults new.faults result
+
+-- the same, of a sink and the bytes before the call, and of both after it
+abbrev pub Adds : {K : Type 0} → (K → Known) → (K → Known) → (K → ℕ) → K → List ℕ → K → List ℕ → List ℕ → Result Unit Failed → Type 0
+Adds held name faults old before new after text result =
+    Carries (outlet held name faults old before) (outlet held name faults new after) text result

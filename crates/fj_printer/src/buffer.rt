@@ -1,4 +1,4 @@
-ghost use Rattle.std.specs.Prelude.{◌≡◌, ◌+◌, ◌<◌, ◌≤◌, [], ◌++◌, length, take, true, false};
+ghost use Rattle.std.specs.Prelude.{◌≡◌, ◌-◌, [], ◌++◌, length, take, min, nat_le};
 
 use std::marker::Model;
 
@@ -36,7 +36,7 @@ impl Buffer {
 
     /// Whether no byte more fits.
     pub fn is_full(&self) -> bool
-        ensures { result ≡ false → length self.now < ROOM }
+        ensures { result ≡ nat_le ROOM (length self.now) }
     {
         self.len == ROOM
     }
@@ -57,9 +57,8 @@ impl Buffer {
 
     /// Takes as much of the front of a piece as fits, and gives the number of bytes taken.
     pub fn fill(&mut self, piece: &[u8]) -> usize
-        ensures bound { result ≤ length piece.now }
+        ensures taken { result ≡ min (length piece.now) (ROOM - length self.old) }
         ensures bytes { self.new ≡ self.old ++ take result piece.now }
-        ensures progress { 0 < length piece.now → length self.old < ROOM → 0 < result }
     {
         let taken = piece.len().min(ROOM - self.len);
         let end = self.len + taken;

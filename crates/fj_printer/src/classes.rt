@@ -1,5 +1,5 @@
 ghost use Rattle.cfj_model.specs.Print.{texts, field_text, class_text};
-ghost use Rattle.fj_printer.specs.Adds.{outlet, Adds};
+ghost use Rattle.fj_printer.specs.Adds.{Adds};
 ghost use Rattle.fj_printer.specs.Parts.{class_head_text};
 
 use crate::buffer::Buffer;
@@ -10,7 +10,7 @@ use cide_io::{Failed, Sink};
 
 /// Adds a class, on lines.
 pub fn class<K: Sink>(buffer: &mut Buffer, sink: &mut K, class: &Class) -> Result<(), Failed>
-    ensures { Adds (outlet K.held K.name K.faults sink.old buffer.old) (outlet K.held K.name K.faults sink.new buffer.new) (class_text class.now) result }
+    ensures { Adds K.held K.name K.faults sink.old buffer.old sink.new buffer.new (class_text class.now) result }
 {
     head(buffer, sink, class)?;
     fields(buffer, sink, &class.fields)?;
@@ -19,7 +19,7 @@ pub fn class<K: Sink>(buffer: &mut Buffer, sink: &mut K, class: &Class) -> Resul
 }
 
 fn head<K: Sink>(buffer: &mut Buffer, sink: &mut K, class: &Class) -> Result<(), Failed>
-    ensures { Adds (outlet K.held K.name K.faults sink.old buffer.old) (outlet K.held K.name K.faults sink.new buffer.new) (class_head_text class.now) result }
+    ensures { Adds K.held K.name K.faults sink.old buffer.old sink.new buffer.new (class_head_text class.now) result }
 {
     add_all(
         buffer,
@@ -35,7 +35,7 @@ fn head<K: Sink>(buffer: &mut Buffer, sink: &mut K, class: &Class) -> Result<(),
 }
 
 fn fields<K: Sink>(buffer: &mut Buffer, sink: &mut K, fields: &Items<Field>) -> Result<(), Failed>
-    ensures { Adds (outlet K.held K.name K.faults sink.old buffer.old) (outlet K.held K.name K.faults sink.new buffer.new) (texts field_text fields.now) result }
+    ensures { Adds K.held K.name K.faults sink.old buffer.old sink.new buffer.new (texts field_text fields.now) result }
 {
     let list = fields.slice();
     'fields: for item in list {
@@ -45,7 +45,7 @@ fn fields<K: Sink>(buffer: &mut Buffer, sink: &mut K, fields: &Items<Field>) -> 
 }
 
 fn field<K: Sink>(buffer: &mut Buffer, sink: &mut K, field: &Field) -> Result<(), Failed>
-    ensures { Adds (outlet K.held K.name K.faults sink.old buffer.old) (outlet K.held K.name K.faults sink.new buffer.new) (field_text field.now) result }
+    ensures { Adds K.held K.name K.faults sink.old buffer.old sink.new buffer.new (field_text field.now) result }
 {
     add_all(
         buffer,

@@ -1,6 +1,6 @@
 ghost use Rattle.std.specs.Prelude.{◌++◌};
 ghost use Rattle.cfj_model.specs.Print.{texts, joined, param_text, sent_text, assign_text, ctor_text};
-ghost use Rattle.fj_printer.specs.Adds.{outlet, Adds};
+ghost use Rattle.fj_printer.specs.Adds.{Adds};
 ghost use Rattle.fj_printer.specs.Parts.{ctor_head_text};
 
 use crate::buffer::Buffer;
@@ -15,7 +15,7 @@ pub fn ctor<K: Sink>(
     name: &Name,
     ctor: &Constructor,
 ) -> Result<(), Failed>
-    ensures { Adds (outlet K.held K.name K.faults sink.old buffer.old) (outlet K.held K.name K.faults sink.new buffer.new) (ctor_text name.now ctor.now) result }
+    ensures { Adds K.held K.name K.faults sink.old buffer.old sink.new buffer.new (ctor_text name.now ctor.now) result }
 {
     head(buffer, sink, name)?;
     params(buffer, sink, &ctor.params)?;
@@ -27,13 +27,13 @@ pub fn ctor<K: Sink>(
 }
 
 fn head<K: Sink>(buffer: &mut Buffer, sink: &mut K, name: &Name) -> Result<(), Failed>
-    ensures { Adds (outlet K.held K.name K.faults sink.old buffer.old) (outlet K.held K.name K.faults sink.new buffer.new) (ctor_head_text name.now) result }
+    ensures { Adds K.held K.name K.faults sink.old buffer.old sink.new buffer.new (ctor_head_text name.now) result }
 {
     add_all(buffer, sink, &["  ", name.text(), "("])
 }
 
 fn params<K: Sink>(buffer: &mut Buffer, sink: &mut K, params: &Items<Param>) -> Result<(), Failed>
-    ensures { Adds (outlet K.held K.name K.faults sink.old buffer.old) (outlet K.held K.name K.faults sink.new buffer.new) (joined param_text params.now) result }
+    ensures { Adds K.held K.name K.faults sink.old buffer.old sink.new buffer.new (joined param_text params.now) result }
 {
     let list = params.slice();
     let mut separator = "";
@@ -50,7 +50,7 @@ fn param<K: Sink>(
     separator: &str,
     param: &Param,
 ) -> Result<(), Failed>
-    ensures { Adds (outlet K.held K.name K.faults sink.old buffer.old) (outlet K.held K.name K.faults sink.new buffer.new) (separator.now ++ param_text param.now) result }
+    ensures { Adds K.held K.name K.faults sink.old buffer.old sink.new buffer.new (separator.now ++ param_text param.now) result }
 {
     add_all(
         buffer,
@@ -60,7 +60,7 @@ fn param<K: Sink>(
 }
 
 fn sends<K: Sink>(buffer: &mut Buffer, sink: &mut K, sends: &Items<Sent>) -> Result<(), Failed>
-    ensures { Adds (outlet K.held K.name K.faults sink.old buffer.old) (outlet K.held K.name K.faults sink.new buffer.new) (joined sent_text sends.now) result }
+    ensures { Adds K.held K.name K.faults sink.old buffer.old sink.new buffer.new (joined sent_text sends.now) result }
 {
     let list = sends.slice();
     let mut separator = "";
@@ -77,13 +77,13 @@ fn sent<K: Sink>(
     separator: &str,
     sent: &Sent,
 ) -> Result<(), Failed>
-    ensures { Adds (outlet K.held K.name K.faults sink.old buffer.old) (outlet K.held K.name K.faults sink.new buffer.new) (separator.now ++ sent_text sent.now) result }
+    ensures { Adds K.held K.name K.faults sink.old buffer.old sink.new buffer.new (separator.now ++ sent_text sent.now) result }
 {
     add_all(buffer, sink, &[separator, sent.name.text()])
 }
 
 fn assigns<K: Sink>(buffer: &mut Buffer, sink: &mut K, assigns: &Items<Sent>) -> Result<(), Failed>
-    ensures { Adds (outlet K.held K.name K.faults sink.old buffer.old) (outlet K.held K.name K.faults sink.new buffer.new) (texts assign_text assigns.now) result }
+    ensures { Adds K.held K.name K.faults sink.old buffer.old sink.new buffer.new (texts assign_text assigns.now) result }
 {
     let list = assigns.slice();
     'assigns: for item in list {
@@ -93,7 +93,7 @@ fn assigns<K: Sink>(buffer: &mut Buffer, sink: &mut K, assigns: &Items<Sent>) ->
 }
 
 fn assign<K: Sink>(buffer: &mut Buffer, sink: &mut K, assign: &Sent) -> Result<(), Failed>
-    ensures { Adds (outlet K.held K.name K.faults sink.old buffer.old) (outlet K.held K.name K.faults sink.new buffer.new) (assign_text assign.now) result }
+    ensures { Adds K.held K.name K.faults sink.old buffer.old sink.new buffer.new (assign_text assign.now) result }
 {
     let name = assign.name.text();
     add_all(buffer, sink, &[" this.", name, " = ", name, ";"])

@@ -1,13 +1,13 @@
 ghost use Rattle.std.specs.Prelude.{◌≡◌, ◌<◌, [], length, OnOk};
 ghost use Rattle.cfj_model.specs.Print.{texts};
-ghost use Rattle.fj_printer.specs.Adds.{outlet, Adds};
+ghost use Rattle.fj_printer.specs.Adds.{Adds};
 
 use crate::buffer::{Buffer, ROOM};
 use cide_io::{Failed, Sink};
 
 /// Puts all that waits into the sink.
 pub fn flush<K: Sink>(buffer: &mut Buffer, sink: &mut K) -> Result<(), Failed>
-    ensures adds { Adds (outlet K.held K.name K.faults sink.old buffer.old) (outlet K.held K.name K.faults sink.new buffer.new) [] result }
+    ensures adds { Adds K.held K.name K.faults sink.old buffer.old sink.new buffer.new [] result }
     ensures empty { OnOk result (buffer.new ≡ []) }
 {
     let waiting = buffer.slice();
@@ -21,7 +21,7 @@ pub fn flush<K: Sink>(buffer: &mut Buffer, sink: &mut K) -> Result<(), Failed>
 
 // Sees that at least one byte more fits.
 fn make_room<K: Sink>(buffer: &mut Buffer, sink: &mut K) -> Result<(), Failed>
-    ensures adds { Adds (outlet K.held K.name K.faults sink.old buffer.old) (outlet K.held K.name K.faults sink.new buffer.new) [] result }
+    ensures adds { Adds K.held K.name K.faults sink.old buffer.old sink.new buffer.new [] result }
     ensures room { OnOk result (length buffer.new < ROOM) }
 {
     if buffer.is_full() {
@@ -33,7 +33,7 @@ fn make_room<K: Sink>(buffer: &mut Buffer, sink: &mut K) -> Result<(), Failed>
 
 /// Adds a text, through the buffer.
 pub fn add<K: Sink>(buffer: &mut Buffer, sink: &mut K, text: &[u8]) -> Result<(), Failed>
-    ensures { Adds (outlet K.held K.name K.faults sink.old buffer.old) (outlet K.held K.name K.faults sink.new buffer.new) text.now result }
+    ensures { Adds K.held K.name K.faults sink.old buffer.old sink.new buffer.new text.now result }
 {
     let mut added = 0;
     'fills: while added < text.len() {
@@ -45,7 +45,7 @@ pub fn add<K: Sink>(buffer: &mut Buffer, sink: &mut K, text: &[u8]) -> Result<()
 
 /// Adds several texts, one after another.
 pub fn add_all<K: Sink>(buffer: &mut Buffer, sink: &mut K, list: &[&str]) -> Result<(), Failed>
-    ensures { Adds (outlet K.held K.name K.faults sink.old buffer.old) (outlet K.held K.name K.faults sink.new buffer.new) (texts (λ text. text.now) list.now) result }
+    ensures { Adds K.held K.name K.faults sink.old buffer.old sink.new buffer.new (texts (λ text. text.now) list.now) result }
 {
     'texts: for text in list {
         add(buffer, sink, text.as_bytes())?;

@@ -18,7 +18,7 @@ fills-preserved g c =
     let filled : Outlet = outlet g.K.Sink.held g.K.Sink.name g.K.Sink.faults c.make_room.new.sink c.fill-added.new.self in
     let rest = take_rest text c.fills.added in
     record {
-      within = let bound = fill.bound in omega (arith, length-take (length text - c.fills.added) (drop c.fills.added text));
+      within = let taken = fill.taken in omega (arith, length-take (length text - c.fills.added) (drop c.fills.added text));
       adds = adds_more c.fills.invariant.adds
           (adds_then c.in_ok-make_room.ensures.adds
           (adds_behind ready filled (take c.fill-added.result (drop c.fills.added text)) refl refl refl

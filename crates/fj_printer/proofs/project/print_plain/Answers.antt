@@ -3,7 +3,7 @@ use Rattle.std.proofs.lemmas.List.{take_all}
 use Rattle.std.proofs.lemmas.Option.{get_or_from_slice_get}
 use Rattle.std.proofs.lemmas.Result.{IfOk-from_err}
 use Rattle.cfj_model.specs.Print.{texts, class_text}
-use Rattle.fj_printer.specs.Adds.{Outlet, outlet, Adds}
+use Rattle.fj_printer.specs.Adds.{Outlet, outlet, Carries}
 use Rattle.fj_printer.proofs.Composing.{adds_then, adds_more, adds_stopped, all_added}
 use Rattle.fj_printer.proofs.Lists.{texts_more, texts_there}
 use Rattle.fj_printer.proofs.project.print_plain.Goals as goal
@@ -31,7 +31,7 @@ returns-clause-text g c =
     let classes = c.args.project.now.classes in
     let before : Outlet = outlet g.K.Sink.held g.K.Sink.name g.K.Sink.faults c.args.sink.now [] in
     let after : Outlet = outlet g.K.Sink.held g.K.Sink.name g.K.Sink.faults c.flush.new.sink c.flush.new.buffer in
-    let P : List ℕ → Type 0 = λ text. Adds before after text c.flush.result in
+    let P : List ℕ → Type 0 = λ text. Carries before after text c.flush.result in
     let whole : texts class_text (take c.classes.place classes) ++ [] ≡ texts class_text classes =
     append-nil (texts class_text (take c.classes.place classes)) ∙ ap (texts class_text) (take_all c.classes.place classes (omega arith)) in
     all_added c.flush.result refl c.flush.ensures.empty (subst P whole (adds_then c.classes.invariant c.flush.ensures.adds))

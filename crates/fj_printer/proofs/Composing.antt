@@ -1,10 +1,10 @@
 -- How what two calls add is what one adds.
-use Rattle.std.proofs.Common.{subst, OnOk, IsErr, ◌≡◌, refl, sym, ap, ◌∙◌, ℕ, ◌+◌, ◌<◌, ◌≤◌, List, [], ◌++◌, length, take, drop, Result, Ok, Err, OnErr, Option, Some, None, length-append, append-nil, arith}
-use Rattle.std.proofs.lemmas.List.{append_assoc, take-append-drop, length-drop}
+use Rattle.std.proofs.Common.{subst, OnOk, IsErr, ◌≡◌, refl, sym, ap, ◌∙◌, ℕ, ◌<◌, ◌≤◌, List, [], ◌++◌, length, take, drop, Result, Ok, Err, Some, None, length-append, append-nil, arith}
+use Rattle.std.proofs.lemmas.List.{append_assoc, take-append-drop}
 use Rattle.cide_io.specs.declared.faults.Failed.{Failed}
-use Rattle.cide_io.specs.Faults.{HasCause, Rose, last_count}
+use Rattle.cide_io.specs.Faults.{HasCause, Rose}
 use Rattle.cide_io.specs.Known.{Known, appended, IsCut, IsAdded}
-use Rattle.fj_printer.specs.Adds.{Outlet, outlet, IsPassed, IsTaken, Carries}
+use Rattle.fj_printer.specs.Adds.{Outlet, IsPassed, Carries}
 
 appended_twice : (known : Known) (x y : List ℕ) → appended (appended known x) y ≡ appended known (x ++ y)
 appended_twice None x y = refl

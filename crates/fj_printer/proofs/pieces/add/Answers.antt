@@ -1,4 +1,4 @@
-use Rattle.std.proofs.Common.{arith, ◌-◌, refl, ◌≡◌, sym, ◌∙◌, ap, drop, take, length, ◌+◌, [], ◌++◌}
+use Rattle.std.proofs.Common.{arith, ◌-◌, refl, sym, ◌∙◌, ap, drop, take, length, ◌++◌}
 use Rattle.std.proofs.lemmas.List.{take-append-drop, take_rest, length-take}
 use Rattle.std.proofs.Math.Seq.{take-add}
 use Rattle.fj_printer.specs.Adds.{Outlet, outlet}

@@ -1,4 +1,4 @@
-use Rattle.std.proofs.Common.{arith, ◌≡◌, sym, ◌∙◌, ap, drop, take, length, ◌+◌}
+use Rattle.std.proofs.Common.{arith, sym, ◌∙◌, ap, drop, take, ◌+◌}
 use Rattle.std.proofs.lemmas.List.{drop-drop, take_rest}
 use Rattle.cide_io.specs.Known.{appended}
 use Rattle.fj_printer.specs.Adds.{Outlet, outlet}

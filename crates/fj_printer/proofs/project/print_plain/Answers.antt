@@ -1,4 +1,4 @@
-use Rattle.std.proofs.Common.{arith, ◌≡◌, refl, sym, ap, subst, ◌∙◌, ℕ, List, [], ◌++◌, take, append-nil, Result}
+use Rattle.std.proofs.Common.{arith, ◌≡◌, refl, sym, ap, subst, ◌∙◌, ℕ, List, [], ◌++◌, take, append-nil}
 use Rattle.std.proofs.lemmas.List.{take_all}
 use Rattle.std.proofs.lemmas.Option.{get_or_from_slice_get}
 use Rattle.std.proofs.lemmas.Result.{IfOk-from_err}
@@ -13,18 +13,20 @@ returns-in_err-class-clause-text g c =
     let classes = c.args.project.now.classes in
     let class = c.class.result.now in
     let err = c.from_residual.ensures.0 in
-    all_added c.from_residual.result refl (IfOk-from_err c.from_residual.result (λ _. c.class-in-classes.new.buffer ≡ []) err)
-    (adds_stopped _ c.from_residual.result err c.classes.invariant c.in_err-class.ensures
-    (texts_there class_text classes c.classes.place class _ (omega arith)
-    (ap class_text (sym (get_or_from_slice_get classes c.classes.place class class c.class.ensures)))))
+    let after : Outlet = outlet g.K.Sink.held g.K.Sink.name g.K.Sink.faults c.class-in-classes.new.sink c.class-in-classes.new.buffer in
+    let here = get_or_from_slice_get classes c.classes.place class class c.class.ensures in
+    let split = texts_there class_text classes c.classes.place class (class_text class) (omega arith) (ap class_text (sym here)) in
+    let empty = IfOk-from_err c.from_residual.result (λ _. after.pending ≡ []) err in
+    all_added c.from_residual.result refl empty (adds_stopped {c = after} _ c.from_residual.result err c.classes.invariant c.in_err-class.ensures split)
 
 pub classes-preserved : goal.classes-preserved
 classes-preserved g c =
     let classes = c.args.project.now.classes in
     let class = c.class.result.now in
-    adds_more c.classes.invariant c.in_ok-class.ensures
-    (texts_more class_text classes c.classes.place class _ (omega arith)
-    (ap class_text (sym (get_or_from_slice_get classes c.classes.place class class c.class.ensures))))
+    let after : Outlet = outlet g.K.Sink.held g.K.Sink.name g.K.Sink.faults c.class-in-classes.new.sink c.class-in-classes.new.buffer in
+    let here = get_or_from_slice_get classes c.classes.place class class c.class.ensures in
+    let more = texts_more class_text classes c.classes.place class (class_text class) (omega arith) (ap class_text (sym here)) in
+    adds_more {c = after} c.classes.invariant c.in_ok-class.ensures more
 
 pub returns-clause-text : goal.returns-clause-text
 returns-clause-text g c =

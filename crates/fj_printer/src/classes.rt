@@ -21,17 +21,9 @@ pub fn class<K: Sink>(buffer: &mut Buffer, sink: &mut K, class: &Class) -> Resul
 fn head<K: Sink>(buffer: &mut Buffer, sink: &mut K, class: &Class) -> Result<(), Failed>
     ensures { Adds K.held K.name K.faults sink.old buffer.old sink.new buffer.new (class_head_text class.now) result }
 {
-    add_all(
-        buffer,
-        sink,
-        &[
-            "class ",
-            class.name.text(),
-            " extends ",
-            class.parent.text(),
-            " {\n",
-        ],
-    )
+    let name = class.name.text();
+    let parent = class.parent.text();
+    add_all(buffer, sink, &["class ", name, " extends ", parent, " {\n"])
 }
 
 fn fields<K: Sink>(buffer: &mut Buffer, sink: &mut K, fields: &Items<Field>) -> Result<(), Failed>
@@ -47,9 +39,7 @@ fn fields<K: Sink>(buffer: &mut Buffer, sink: &mut K, fields: &Items<Field>) -> 
 fn field<K: Sink>(buffer: &mut Buffer, sink: &mut K, field: &Field) -> Result<(), Failed>
     ensures { Adds K.held K.name K.faults sink.old buffer.old sink.new buffer.new (field_text field.now) result }
 {
-    add_all(
-        buffer,
-        sink,
-        &["  ", field.of.text(), " ", field.name.text(), ";\n"],
-    )
+    let of = field.of.text();
+    let name = field.name.text();
+    add_all(buffer, sink, &["  ", of, " ", name, ";\n"])
 }

@@ -52,11 +52,9 @@ fn param<K: Sink>(
 ) -> Result<(), Failed>
     ensures { Adds K.held K.name K.faults sink.old buffer.old sink.new buffer.new (separator.now ++ param_text param.now) result }
 {
-    add_all(
-        buffer,
-        sink,
-        &[separator, param.of.text(), " ", param.name.text()],
-    )
+    let of = param.of.text();
+    let name = param.name.text();
+    add_all(buffer, sink, &[separator, of, " ", name])
 }
 
 fn sends<K: Sink>(buffer: &mut Buffer, sink: &mut K, sends: &Items<Sent>) -> Result<(), Failed>

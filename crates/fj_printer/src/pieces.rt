@@ -19,7 +19,7 @@ pub fn flush<K: Sink>(buffer: &mut Buffer, sink: &mut K) -> Result<(), Failed>
     Ok(())
 }
 
-// Sees that at least one byte more fits.
+// Sees that at least one byte fits, and puts what waits only where none would.
 fn make_room<K: Sink>(buffer: &mut Buffer, sink: &mut K) -> Result<(), Failed>
     ensures adds { Adds K.held K.name K.faults sink.old buffer.old sink.new buffer.new [] result }
     ensures room { OnOk result (length buffer.new < ROOM) }
@@ -31,8 +31,8 @@ fn make_room<K: Sink>(buffer: &mut Buffer, sink: &mut K) -> Result<(), Failed>
     }
 }
 
-/// Adds a text, through the buffer.
-pub fn add<K: Sink>(buffer: &mut Buffer, sink: &mut K, text: &[u8]) -> Result<(), Failed>
+// Adds a text. What does not fit behind the bytes that wait goes on once they are put.
+fn add<K: Sink>(buffer: &mut Buffer, sink: &mut K, text: &[u8]) -> Result<(), Failed>
     ensures { Adds K.held K.name K.faults sink.old buffer.old sink.new buffer.new text.now result }
 {
     let mut added = 0;
@@ -43,7 +43,7 @@ pub fn add<K: Sink>(buffer: &mut Buffer, sink: &mut K, text: &[u8]) -> Result<()
     Ok(())
 }
 
-/// Adds several texts, one after another.
+/// Adds texts, one after another.
 pub fn add_all<K: Sink>(buffer: &mut Buffer, sink: &mut K, list: &[&str]) -> Result<(), Failed>
     ensures { Adds K.held K.name K.faults sink.old buffer.old sink.new buffer.new (texts (λ text. text.now) list.now) result }
 {

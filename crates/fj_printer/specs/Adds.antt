@@ -22,13 +22,13 @@ pub record IsPassed (old new : Outlet) (text : List ℕ) : Type 0 where
   pub gained : new.held ≡ appended old.held sent
 
 -- All of the text was taken, or, after a failure, the sink got a proper prefix of the bytes that waited and the text.
-abbrev pub IsTaken : Outlet → Outlet → List ℕ → Result Unit Failed → Type 0
-IsTaken old new text (Ok u) = IsPassed old new text
-IsTaken old new text (Err e) = IsCut old.held new.held (old.pending ++ text)
+abbrev pub IsCarried : Outlet → Outlet → List ℕ → Result Unit Failed → Type 0
+IsCarried old new text (Ok u) = IsPassed old new text
+IsCarried old new text (Err e) = IsCut old.held new.held (old.pending ++ text)
 
 -- The text was added, the sink kept its name, and a failure comes only where its count of faults rose.
 pub record Carries (old new : Outlet) (text : List ℕ) (result : Result Unit Failed) : Type 0 where
-  pub taken : IsTaken old new text result
+  pub taken : IsCarried old new text result
   pub named : new.name ≡ old.name
   pub cause : HasCause old.faults new.faults result
 

@@ -97,3 +97,19 @@ pub record IsProject (p : ProductLine) : Type 0 where
   pub classes_distinct : are_distinct (map (λ k. k.name) p.classes) ≡ true
   pub each_class : list_all (is_class (length p.model.features)) p.classes ≡ true
   pub fits : nat_le (size p.classes) most_size ≡ true
+
+-- no node of a class is marked
+unfoldable pub is_plain_class : Class → Bool
+is_plain_class k =
+    k.colors == 0
+    && list_all (λ (f : Field). f.colors == 0) k.fields
+    && list_all (λ (p : Param). p.colors == 0) k.ctor.params
+    && list_all (λ (s : Sent). s.colors == 0) k.ctor.sends
+    && list_all (λ (a : Sent). a.colors == 0) k.ctor.assigns
+
+abbrev pub is_plain : List Class → Bool
+is_plain = list_all is_plain_class
+
+-- nothing is marked
+abbrev pub IsPlain : ProductLine → Type 0
+IsPlain p = is_plain p.classes ≡ true

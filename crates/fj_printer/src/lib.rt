@@ -1,0 +1,17 @@
+//! Prints a plain product line into a sink.
+//!
+//! Rests on `cfj_model`, whose `specs/Print.antt` says what the printed form is, and on `cide_io`'s [`Sink`]. Every function
+//! of this layer promises the same of its own part of that form: after `Ok` exactly the part went behind what came before,
+//! and after a failure the sink holds a proper prefix of it. Pieces are gathered in a buffer of a fixed size, so that a
+//! stream is given few and large ones. No memory is taken.
+//!
+//! [`Sink`]: cide_io::Sink
+#![tactic(auto)]
+
+mod buffer;
+mod classes;
+mod ctors;
+mod pieces;
+mod project;
+
+pub use project::print_plain;

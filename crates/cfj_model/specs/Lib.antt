@@ -7,4 +7,5 @@ pub mod Names
 pub mod Print
 pub mod ProductLines
 pub mod Roles
+pub mod Selections
 pub mod Tokens

@@ -1,4 +1,4 @@
-ghost use Rattle.std.specs.Prelude.{◌≡◌, ℕ, ◌^◌, ◌<◌, ◌↔◌, ◌≢◌, IsTrue, IsBitSet, bit_or, bit_and, ◌==◌};
+ghost use Rattle.std.specs.Prelude.{◌≡◌, ℕ, ◌^◌, ◌<◌, ◌↔◌, ◌≢◌, IsTrue, IsBitSet, bit_or, bit_and, ◌==◌, ◌≤◌, nat_lt};
 ghost use Rattle.cfj_model.specs.Selections.{has_bit, is_subset};
 
 use std::marker::Model;
@@ -55,10 +55,26 @@ impl FeatureSet {
         self.bits & other.bits == self.bits
     }
 
+    /// Whether all members are below this number.
+    pub fn is_below(&self, features: u8) -> bool
+        requires { features ≤ 128 }
+        ensures { result ≡ nat_lt self.now (2 ^ features) }
+    {
+        fits(self.bits, features)
+    }
+
     /// Whether no member is one of the other set.
     pub fn is_disjoint(&self, other: &FeatureSet) -> bool
         ensures { result ≡ (bit_and self.now other.now == 0) }
     {
         self.bits & other.bits == 0
     }
+}
+
+/// Whether a number has at most so many bits.
+fn fits(bits: u128, features: u8) -> bool
+    requires { features ≤ 128 }
+    ensures { result ≡ nat_lt bits (2 ^ features) }
+{
+    features == 128 || bits < 1 << features
 }

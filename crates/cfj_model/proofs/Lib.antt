@@ -1,1 +1,2 @@
 mod Reserved
+pub mod SetBits

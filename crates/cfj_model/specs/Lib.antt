@@ -4,7 +4,11 @@ pub mod Faults
 pub mod Grammar
 pub mod Lexemes
 pub mod Names
+pub mod Logs
 pub mod Print
 pub mod ProductLines
 pub mod Roles
+pub mod Selections
+pub mod Sides
 pub mod Tokens
+pub mod UnitClauses

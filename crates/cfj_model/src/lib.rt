@@ -7,20 +7,30 @@
 
 mod character;
 mod class;
+mod clause;
+mod clauses;
 mod colors;
 mod fault;
 mod feature_model;
+mod feature_set;
 mod items;
+mod log;
 mod name;
 mod project;
+mod selection;
 mod text;
 
 pub use character::split_first;
 pub use class::{Class, Constructor, Field, Param, Sent};
+pub use clause::Clause;
+pub use clauses::{Clauses, Literal};
 pub use colors::Colors;
 pub use fault::{FaultKind, LimitKind, ParseFault};
 pub use feature_model::FeatureModel;
+pub use feature_set::FeatureSet;
 pub use items::Items;
+pub use log::Log;
 pub use name::{MOST_NAME_BYTES, Name, continues_word, is_identifier, is_reserved, starts_word};
 pub use project::Project;
+pub use selection::Selection;
 pub use text::Text;

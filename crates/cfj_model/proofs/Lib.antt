@@ -1,2 +1,3 @@
+pub mod Identifiers
 mod Reserved
 pub mod SetBits

@@ -1,5 +1,6 @@
 -- The grammar of projects: concrete-syntax trees, the tokens that a tree spells, and the product line that it stands for.
-use Rattle.std.specs.Prelude.{ℕ, ◌+◌, List, [], ◌∷◌, map}
+use Rattle.std.specs.Prelude.{ℕ, ◌+◌, ◌^◌, List, [], ◌∷◌, map, position, bit_or, codes, Option, Some, None}
+use Rattle.std.specs.Str.{bytes_eq}
 use Rattle.cfj_model.specs.declared.class.Field.{Field}
 use Rattle.cfj_model.specs.declared.class.Param.{Param}
 use Rattle.cfj_model.specs.declared.class.Sent.{Sent}
@@ -7,19 +8,22 @@ use Rattle.cfj_model.specs.declared.class.Constructor.{Constructor}
 use Rattle.cfj_model.specs.declared.class.Class.{Class}
 use Rattle.cfj_model.specs.declared.feature_model.FeatureModel.{FeatureModel}
 use Rattle.cfj_model.specs.ProductLines.{ProductLine}
-use Rattle.cfj_model.specs.Tokens.{Token, Id, ClassWord, ExtendsWord, SuperWord, ThisWord, OpenBrace, CloseBrace, OpenParen, CloseParen, Semicolon, Comma, Dot, Equals}
+use Rattle.cfj_model.specs.Tokens.{Token, Id, ClassWord, ExtendsWord, SuperWord, ThisWord, OpenBrace, CloseBrace, OpenParen, CloseParen, Semicolon, Comma, Dot, Equals, At}
 
--- a type and a name: of a field, or of a parameter
+-- marks, a type and a name: of a field, or of a parameter
 pub record Declared : Type 0 where
+  pub marks : List (List ℕ)
   pub of : List ℕ
   pub name : List ℕ
 
--- a name that is sent, or assigned
+-- marks and a name that is sent, or assigned
 pub record Named : Type 0 where
+  pub marks : List (List ℕ)
   pub name : List ℕ
 
 -- The constructor's name is the class's, and so isn't told twice. The same holds of both names of an assignment.
 pub record ClassTree : Type 0 where
+  pub marks : List (List ℕ)
   pub name : List ℕ
   pub parent : List ℕ
   pub fields : List Declared
@@ -27,9 +31,10 @@ pub record ClassTree : Type 0 where
   pub sends : List Named
   pub assigns : List Named
 
--- a project: {class}
-abbrev pub Tree : Type 0
-Tree = List ClassTree
+-- a project: its features, in a line where there are any, and its classes
+pub record Tree : Type 0 where
+  pub features : List (List ℕ)
+  pub classes : List ClassTree
 
 -- {X}, and what follows
 abbrev pub in_order : {A B : Type 0} → (A → List B → List B) → List A → List B → List B
@@ -46,21 +51,42 @@ abbrev pub separated : {A B : Type 0} → B → (A → List B → List B) → Li
 separated comma spell [] rest = rest
 separated comma spell (x ∷ xs) rest = spell x (each_behind comma spell xs rest)
 
--- field: id id ";"
+-- the word that begins a feature line; it is an identifier like any other
+abbrev pub features_word : List ℕ
+features_word = codes "features"
+
+-- id
+abbrev pub spell_name : List ℕ → List Token → List Token
+spell_name w rest = Id w ∷ rest
+
+-- ["features" id {"," id} ";"]
+abbrev pub spell_features : List (List ℕ) → List Token → List Token
+spell_features [] rest = rest
+spell_features (f ∷ fs) rest = Id features_word ∷ (Id f ∷ each_behind Comma spell_name fs (Semicolon ∷ rest))
+
+-- "@" id
+abbrev pub spell_mark : List ℕ → List Token → List Token
+spell_mark m rest = At ∷ (Id m ∷ rest)
+
+-- marks: {"@" id}
+abbrev pub spell_marks : List (List ℕ) → List Token → List Token
+spell_marks = in_order spell_mark
+
+-- field: marks id id ";"
 abbrev pub spell_field : Declared → List Token → List Token
-spell_field d rest = Id d.of ∷ (Id d.name ∷ (Semicolon ∷ rest))
+spell_field d rest = spell_marks d.marks (Id d.of ∷ (Id d.name ∷ (Semicolon ∷ rest)))
 
--- param: id id
+-- param: marks id id
 abbrev pub spell_param : Declared → List Token → List Token
-spell_param d rest = Id d.of ∷ (Id d.name ∷ rest)
+spell_param d rest = spell_marks d.marks (Id d.of ∷ (Id d.name ∷ rest))
 
--- sent: id
+-- sent: marks id
 abbrev pub spell_sent : Named → List Token → List Token
-spell_sent s rest = Id s.name ∷ rest
+spell_sent s rest = spell_marks s.marks (Id s.name ∷ rest)
 
--- assign: "this" "." id "=" id ";"
+-- assign: marks "this" "." id "=" id ";"
 abbrev pub spell_assign : Named → List Token → List Token
-spell_assign a rest = ThisWord ∷ (Dot ∷ (Id a.name ∷ (Equals ∷ (Id a.name ∷ (Semicolon ∷ rest)))))
+spell_assign a rest = spell_marks a.marks (ThisWord ∷ (Dot ∷ (Id a.name ∷ (Equals ∷ (Id a.name ∷ (Semicolon ∷ rest))))))
 
 -- ctor: id "(" list(param) ")" "{" "super" "(" list(sent) ")" ";" {assign} "}"
 abbrev pub spell_ctor : ClassTree → List Token → List Token
@@ -77,37 +103,61 @@ spell_ctor k rest =
     ∷ (Semicolon
     ∷ in_order spell_assign k.assigns (CloseBrace ∷ rest))))))))
 
--- class: "class" id "extends" id "{" {field} ctor "}"
+-- class: marks "class" id "extends" id "{" {field} ctor "}"
 abbrev pub spell_class : ClassTree → List Token → List Token
 spell_class k rest =
-    ClassWord
+    spell_marks k.marks
+    (ClassWord
     ∷ (Id k.name
-    ∷ (ExtendsWord ∷ (Id k.parent ∷ (OpenBrace ∷ in_order spell_field k.fields (spell_ctor k (CloseBrace ∷ rest))))))
+    ∷ (ExtendsWord ∷ (Id k.parent ∷ (OpenBrace ∷ in_order spell_field k.fields (spell_ctor k (CloseBrace ∷ rest)))))))
 
--- project: {class}
+-- project: ["features" id {"," id} ";"] {class}
 abbrev pub spell : Tree → List Token → List Token
-spell = in_order spell_class
+spell tree rest = spell_features tree.features (in_order spell_class tree.classes rest)
 
 -- Items with their places in their list, from a number on.
 abbrev pub numbered : {A B : Type 0} → (ℕ → A → B) → ℕ → List A → List B
 numbered f n [] = []
 numbered f n (x ∷ xs) = f n x ∷ numbered f (n + 1) xs
 
-abbrev pub value_field : Declared → Field
-value_field d = record { alt = 0; colors = 0; of = d.of; name = d.name }
+-- the set of one feature, by its name; of a name that isn't a feature the empty set
+abbrev pub color_at : Option ℕ → ℕ
+color_at None = 0
+color_at (Some feature) = 2 ^ feature
 
-abbrev pub value_param : ℕ → Declared → Param
-value_param slot d = record { slot = slot; colors = 0; of = d.of; name = d.name }
+abbrev pub color_of : List (List ℕ) → List ℕ → ℕ
+color_of features m = color_at (position (λ f. bytes_eq f m) features)
 
-abbrev pub value_sent : ℕ → Named → Sent
-value_sent slot s = record { slot = slot; colors = 0; name = s.name }
+-- a set and the features of these marks
+abbrev pub colored : List (List ℕ) → ℕ → List (List ℕ) → ℕ
+colored features colors [] = colors
+colored features colors (m ∷ ms) = colored features (bit_or colors (color_of features m)) ms
 
-abbrev pub value_ctor : ClassTree → Constructor
-value_ctor k = record { params = numbered value_param 0 k.params; sends = numbered value_sent 0 k.sends; assigns = numbered value_sent 0 k.assigns }
+-- the set of the features that a node is marked with, whatever their order
+abbrev pub colors_of : List (List ℕ) → List (List ℕ) → ℕ
+colors_of features = colored features 0
 
-abbrev pub value_class : ClassTree → Class
-value_class k = record { name = k.name; colors = 0; parent = k.parent; fields = map value_field k.fields; ctor = value_ctor k }
+abbrev pub value_field : List (List ℕ) → Declared → Field
+value_field features d = record { alt = 0; colors = colors_of features d.marks; of = d.of; name = d.name }
+
+abbrev pub value_param : List (List ℕ) → ℕ → Declared → Param
+value_param features slot d = record { slot = slot; colors = colors_of features d.marks; of = d.of; name = d.name }
+
+abbrev pub value_sent : List (List ℕ) → ℕ → Named → Sent
+value_sent features slot s = record { slot = slot; colors = colors_of features s.marks; name = s.name }
+
+abbrev pub value_ctor : List (List ℕ) → ClassTree → Constructor
+value_ctor features k =
+    record {
+      params = numbered (value_param features) 0 k.params;
+      sends = numbered (value_sent features) 0 k.sends;
+      assigns = numbered (value_sent features) 0 k.assigns;
+    }
+
+abbrev pub value_class : List (List ℕ) → ClassTree → Class
+value_class features k =
+    record { name = k.name; colors = colors_of features k.marks; parent = k.parent; fields = map (value_field features) k.fields; ctor = value_ctor features k }
 
 -- the product line that a tree stands for; it is numbered
 abbrev pub value : Tree → ProductLine
-value tree = record { model = record { features = [] }; classes = map value_class tree }
+value tree = record { model = record { features = tree.features }; classes = map (value_class tree.features) tree.classes }

@@ -7,6 +7,7 @@ pub mod Names
 pub mod Logs
 pub mod Print
 pub mod ProductLines
+pub mod Projection
 pub mod Roles
 pub mod Selections
 pub mod Sides

@@ -1,5 +1,5 @@
 -- The machine that reads one token at a time: how it goes on, and the role that it gives each token.
-use Rattle.std.specs.Prelude.{◌≡◌, ℕ, Bool, true, false, ◌&&◌, if◌then◌else◌, List, [], ◌∷◌, ◌++◌, length, codes, Option, Some, None}
+use Rattle.std.specs.Prelude.{◌≡◌, ℕ, Bool, true, false, ◌&&◌, if◌then◌else◌, List, [], ◌∷◌, ◌++◌, length, codes, bit_or, Option, Some, None}
 use Rattle.std.specs.List.{list_all}
 use Rattle.std.specs.Str.{bytes_eq}
 use Rattle.cfj_model.specs.declared.class.Field.{Field}
@@ -8,75 +8,132 @@ use Rattle.cfj_model.specs.declared.class.Sent.{Sent}
 use Rattle.cfj_model.specs.declared.class.Class.{Class}
 use Rattle.cfj_model.specs.declared.fault.FaultKind.{FaultKind}
 use Rattle.cfj_model.specs.declared.fault.FaultKind.TheVariants as fault
+use Rattle.cfj_model.specs.Grammar.{color_of, features_word}
 use Rattle.cfj_model.specs.Names.{is_identifier}
-use Rattle.cfj_model.specs.Tokens.{Token, Id, ClassWord, ExtendsWord, SuperWord, ThisWord, OpenBrace, CloseBrace, OpenParen, CloseParen, Semicolon, Comma, Dot, Equals, End, is_reserved_word}
-use Rattle.cfj_model.specs.Roles.{Role, class_name, field_name, param_name, sent_name, assigned_name, used_name, plain}
+use Rattle.cfj_model.specs.Tokens.{Token, Id, ClassWord, ExtendsWord, SuperWord, ThisWord, OpenBrace, CloseBrace, OpenParen, CloseParen, Semicolon, Comma, Dot, Equals, At, End, is_reserved_word}
+use Rattle.cfj_model.specs.Roles.{Role, feature_name, mark_name, class_name, field_name, param_name, sent_name, assigned_name, used_name, plain}
+use Rattle.fj_parser.specs.declared.mode.Node.{Node}
+use Rattle.fj_parser.specs.declared.mode.Node.TheVariants as node
 use Rattle.fj_parser.specs.declared.mode.Mode.{Mode}
-use Rattle.fj_parser.specs.declared.mode.Mode.TheVariants.{Start, AfterClass, AfterClassName, AfterExtends, AfterParent, InMembers, AfterType, AfterFieldName, InParams, AfterParamComma, AfterParamType, AfterParam, AfterParams, InBody, AfterSuper, InSends, AfterSendComma, AfterSend, AfterSends, InAssigns, AfterThis, AfterThisDot, AfterAssigned, AfterEquals, AfterSecondName, AfterCtor, AtEnd}
+use Rattle.fj_parser.specs.declared.mode.Mode.TheVariants.{Begin, AfterFeatures, AfterFeature, AfterFeatureComma, Start, AfterAt, AfterMark, AfterMarkedType, AfterClass, AfterClassName, AfterExtends, AfterParent, InMembers, AfterType, AfterFieldName, InParams, AfterParamComma, AfterParamType, AfterParam, AfterParams, InBody, AfterSuper, InSends, AfterSendComma, AfterSend, AfterSends, InAssigns, AfterThis, AfterThisDot, AfterAssigned, AfterEquals, AfterSecondName, AfterCtor, AtEnd}
 
 -- what stands for a name that isn't in hand
 abbrev pub unnamed : List ℕ
 unnamed = codes "this"
 
--- The classes that are read, the class in hand, the type and the name that were read last, and the mode. A list that isn't in
--- hand is empty, and a name is `unnamed`.
+-- The features and classes that are read, the class in hand with its colours, the colours of the marks in hand, the type and
+-- the name that were read last, and the mode. A list or a set that isn't in hand is empty, and a name is `unnamed`.
 pub record State : Type 0 where
   pub mode : Mode
+  pub features : List (List ℕ)
   pub classes : List Class
+  pub class_colors : ℕ
   pub name : List ℕ
   pub parent : List ℕ
   pub fields : List Field
   pub params : List Param
   pub sends : List Sent
   pub assigns : List Sent
+  pub colors : ℕ
   pub of : List ℕ
   pub last : List ℕ
 
--- behind these classes
-abbrev pub behind : List Class → State
-behind classes = record { mode = Start; classes = classes; name = unnamed; parent = unnamed; fields = []; params = []; sends = []; assigns = []; of = unnamed; last = unnamed }
+-- behind these features and classes
+abbrev pub behind : List (List ℕ) → List Class → State
+behind features classes =
+    record {
+      mode = Start;
+      features = features;
+      classes = classes;
+      class_colors = 0;
+      name = unnamed;
+      parent = unnamed;
+      fields = [];
+      params = [];
+      sends = [];
+      assigns = [];
+      colors = 0;
+      of = unnamed;
+      last = unnamed;
+    }
 
+-- before the first token
 abbrev pub start : State
-start = behind []
+start = record (behind [] []) { mode = Begin }
 
 -- the state with another mode
 abbrev pub to : Mode → State → Option State
 to m s = Some (record s { mode = m })
 
+abbrev pub with_feature : State → List ℕ → State
+with_feature s w = record s { mode = AfterFeature; features = s.features ++ w ∷ [] }
+
+-- one more mark of a node
+abbrev pub with_mark : Node → State → List ℕ → State
+with_mark n s w = record s { mode = AfterMark n; colors = bit_or s.colors (color_of s.features w) }
+
+-- the marks in hand are the class's
+abbrev pub with_class_colors : State → State
+with_class_colors s = record s { mode = AfterClass; class_colors = s.colors; colors = 0 }
+
 -- the field in hand
 abbrev pub field_of : State → Field
-field_of s = record { alt = 0; colors = 0; of = s.of; name = s.last }
+field_of s = record { alt = 0; colors = s.colors; of = s.of; name = s.last }
 
 abbrev pub with_field : State → State
-with_field s = record s { mode = InMembers; fields = s.fields ++ field_of s ∷ []; of = unnamed; last = unnamed }
+with_field s = record s { mode = InMembers; fields = s.fields ++ field_of s ∷ []; colors = 0; of = unnamed; last = unnamed }
 
 -- a parameter of the type in hand
 abbrev pub with_param : State → List ℕ → State
-with_param s w = record s { mode = AfterParam; params = s.params ++ record { slot = length s.params; colors = 0; of = s.of; name = w } ∷ []; of = unnamed }
+with_param s w = record s { mode = AfterParam; params = s.params ++ record { slot = length s.params; colors = s.colors; of = s.of; name = w } ∷ []; colors = 0; of = unnamed }
 
 abbrev pub with_sent : State → List ℕ → State
-with_sent s w = record s { mode = AfterSend; sends = s.sends ++ record { slot = length s.sends; colors = 0; name = w } ∷ [] }
+with_sent s w = record s { mode = AfterSend; sends = s.sends ++ record { slot = length s.sends; colors = s.colors; name = w } ∷ []; colors = 0 }
 
 abbrev pub with_assign : State → List ℕ → State
-with_assign s w = record s { mode = AfterAssigned; assigns = s.assigns ++ record { slot = length s.assigns; colors = 0; name = w } ∷ []; last = w }
+with_assign s w = record s { mode = AfterAssigned; assigns = s.assigns ++ record { slot = length s.assigns; colors = s.colors; name = w } ∷ []; colors = 0; last = w }
 
 -- the class in hand
 abbrev pub class_of : State → Class
-class_of s = record { name = s.name; colors = 0; parent = s.parent; fields = s.fields; ctor = record { params = s.params; sends = s.sends; assigns = s.assigns } }
+class_of s = record { name = s.name; colors = s.class_colors; parent = s.parent; fields = s.fields; ctor = record { params = s.params; sends = s.sends; assigns = s.assigns } }
 
 abbrev pub step_in : Mode → State → Token → Option State
+step_in Begin s (Id w) = if bytes_eq w features_word then to AfterFeatures s else None
+step_in Begin s At = to (AfterAt node.Class) s
+step_in Begin s ClassWord = to AfterClass s
+step_in Begin s End = to AtEnd s
+step_in AfterFeatures s (Id w) = Some (with_feature s w)
+step_in AfterFeature s Comma = to AfterFeatureComma s
+step_in AfterFeature s Semicolon = to Start s
+step_in AfterFeatureComma s (Id w) = Some (with_feature s w)
+step_in Start s At = to (AfterAt node.Class) s
 step_in Start s ClassWord = to AfterClass s
 step_in Start s End = to AtEnd s
+step_in (AfterAt n) s (Id w) = Some (with_mark n s w)
+step_in (AfterMark node.Class) s At = to (AfterAt node.Class) s
+step_in (AfterMark node.Class) s ClassWord = Some (with_class_colors s)
+step_in (AfterMark node.Member) s At = to (AfterAt node.Member) s
+step_in (AfterMark node.Member) s (Id w) = Some (record s { mode = AfterMarkedType; of = w })
+step_in (AfterMark node.Param) s At = to (AfterAt node.Param) s
+step_in (AfterMark node.Param) s (Id w) = Some (record s { mode = AfterParamType; of = w })
+step_in (AfterMark node.Send) s At = to (AfterAt node.Send) s
+step_in (AfterMark node.Send) s (Id w) = Some (with_sent s w)
+step_in (AfterMark node.Assign) s At = to (AfterAt node.Assign) s
+step_in (AfterMark node.Assign) s ThisWord = to AfterThis s
 step_in AfterClass s (Id w) = Some (record s { mode = AfterClassName; name = w })
 step_in AfterClassName s ExtendsWord = to AfterExtends s
 step_in AfterExtends s (Id w) = Some (record s { mode = AfterParent; parent = w })
 step_in AfterParent s OpenBrace = to InMembers s
+step_in InMembers s At = to (AfterAt node.Member) s
 step_in InMembers s (Id w) = Some (record s { mode = AfterType; of = w })
 step_in AfterType s (Id w) = Some (record s { mode = AfterFieldName; last = w })
 step_in AfterType s OpenParen = if bytes_eq s.of s.name then Some (record s { mode = InParams; of = unnamed }) else None
+step_in AfterMarkedType s (Id w) = Some (record s { mode = AfterFieldName; last = w })
 step_in AfterFieldName s Semicolon = Some (with_field s)
+step_in InParams s At = to (AfterAt node.Param) s
 step_in InParams s (Id w) = Some (record s { mode = AfterParamType; of = w })
 step_in InParams s CloseParen = to AfterParams s
+step_in AfterParamComma s At = to (AfterAt node.Param) s
 step_in AfterParamComma s (Id w) = Some (record s { mode = AfterParamType; of = w })
 step_in AfterParamType s (Id w) = Some (with_param s w)
 step_in AfterParam s Comma = to AfterParamComma s
@@ -84,12 +141,15 @@ step_in AfterParam s CloseParen = to AfterParams s
 step_in AfterParams s OpenBrace = to InBody s
 step_in InBody s SuperWord = to AfterSuper s
 step_in AfterSuper s OpenParen = to InSends s
+step_in InSends s At = to (AfterAt node.Send) s
 step_in InSends s (Id w) = Some (with_sent s w)
 step_in InSends s CloseParen = to AfterSends s
+step_in AfterSendComma s At = to (AfterAt node.Send) s
 step_in AfterSendComma s (Id w) = Some (with_sent s w)
 step_in AfterSend s Comma = to AfterSendComma s
 step_in AfterSend s CloseParen = to AfterSends s
 step_in AfterSends s Semicolon = to InAssigns s
+step_in InAssigns s At = to (AfterAt node.Assign) s
 step_in InAssigns s ThisWord = to AfterThis s
 step_in InAssigns s CloseBrace = to AfterCtor s
 step_in AfterThis s Dot = to AfterThisDot s
@@ -97,7 +157,7 @@ step_in AfterThisDot s (Id w) = Some (with_assign s w)
 step_in AfterAssigned s Equals = to AfterEquals s
 step_in AfterEquals s (Id w) = if bytes_eq w s.last then Some (record s { mode = AfterSecondName; last = unnamed }) else None
 step_in AfterSecondName s Semicolon = to InAssigns s
-step_in AfterCtor s CloseBrace = Some (behind (s.classes ++ class_of s ∷ []))
+step_in AfterCtor s CloseBrace = Some (behind s.features (s.classes ++ class_of s ∷ []))
 step_in _ s t = None
 
 -- the next state; none where the token can't go on
@@ -106,11 +166,16 @@ step s t = step_in s.mode s t
 
 -- what an identifier is in a mode
 abbrev pub name_role : Mode → List ℕ → Role
+name_role AfterFeatures w = feature_name w
+name_role AfterFeatureComma w = feature_name w
+name_role (AfterAt n) w = mark_name w
 name_role AfterClass w = class_name w
 name_role AfterType w = field_name w
+name_role AfterMarkedType w = field_name w
 name_role AfterParamType w = param_name w
 name_role InSends w = sent_name w
 name_role AfterSendComma w = sent_name w
+name_role (AfterMark node.Send) w = sent_name w
 name_role AfterThisDot w = assigned_name w
 name_role _ w = used_name w
 
@@ -124,6 +189,14 @@ role s t = role_in s.mode t
 
 -- some identifier could stand next
 abbrev pub takes_name : Mode → Bool
+takes_name Begin = true
+takes_name AfterFeatures = true
+takes_name AfterFeatureComma = true
+takes_name (AfterAt n) = true
+takes_name (AfterMark node.Member) = true
+takes_name (AfterMark node.Param) = true
+takes_name (AfterMark node.Send) = true
+takes_name AfterMarkedType = true
 takes_name AfterClass = true
 takes_name AfterExtends = true
 takes_name InMembers = true

@@ -1,11 +1,40 @@
 ghost use Rattle.std.specs.Prelude.{◌≡◌};
 ghost use Rattle.fj_parser.specs.Machine.{takes_name};
 
+/// The nodes that marks may stand before.
+#[derive(Clone, Copy, Debug, PartialEq, Eq)]
+pub enum Node {
+    /// A class.
+    Class,
+    /// A field; behind its marks no constructor can stand.
+    Member,
+    /// A parameter.
+    Param,
+    /// A sent name.
+    Send,
+    /// An assignment.
+    Assign,
+}
+
 /// What was read last, which says what may follow.
 #[derive(Clone, Copy, Debug, PartialEq, Eq)]
 pub enum Mode {
-    /// Nothing, or a class.
+    /// Nothing.
+    Begin,
+    /// The word that begins the feature line.
+    AfterFeatures,
+    /// The name of a feature.
+    AfterFeature,
+    /// A comma between features.
+    AfterFeatureComma,
+    /// The feature line, or a class.
     Start,
+    /// The sign of a mark.
+    AfterAt(Node),
+    /// A mark.
+    AfterMark(Node),
+    /// The type of a field with marks.
+    AfterMarkedType,
     /// `class`.
     AfterClass,
     /// The name of a class.
@@ -66,7 +95,15 @@ impl Mode {
         ensures { result ≡ takes_name self }
     {
         match self {
-            Mode::AfterClass
+            Mode::Begin
+            | Mode::AfterFeatures
+            | Mode::AfterFeatureComma
+            | Mode::AfterAt(_)
+            | Mode::AfterMark(Node::Member)
+            | Mode::AfterMark(Node::Param)
+            | Mode::AfterMark(Node::Send)
+            | Mode::AfterMarkedType
+            | Mode::AfterClass
             | Mode::AfterExtends
             | Mode::InMembers
             | Mode::AfterType

@@ -1,7 +1,10 @@
 -- A tree whose tokens break nothing stands for what a project's type keeps.
-use Rattle.std.proofs.Common.{◌≡◌, ℕ, ◌+◌, ◌≤◌, ◌<◌, Bool, true, false, ◌&&◌, List, [], ◌∷◌, ◌++◌, length, map, refl, sym, subst, arith, None, nat_le, bytes_eq}
-use Rattle.std.specs.List.{list_all}
-use Rattle.std.proofs.lemmas.Bool.{and_parts, and_from, not_from_false, ltb-false, leb-false, le-leb}
+use Rattle.std.proofs.Common.{◌≡◌, ℕ, ◌+◌, ◌^◌, ◌≤◌, ◌<◌, Bool, true, false, ◌&&◌, List, [], ◌∷◌, ◌++◌, length, map, refl, sym, subst, arith, Some, None, nat_le, bytes_eq}
+use Rattle.std.specs.Prelude.{nat_lt, bit_or}
+use Rattle.std.specs.List.{list_all, position_or_len}
+use Rattle.std.proofs.Math.Pow.{pow-lt, pow_pos}
+use Rattle.std.proofs.lemmas.Nat.{or_lt}
+use Rattle.std.proofs.lemmas.Bool.{and_parts, and_from, not_from_false, ltb-true, ltb-false, lt-ltb, leb-false, le-leb, cond_both}
 use Rattle.std.proofs.lemmas.Option.{none-some}
 use Rattle.std.proofs.lemmas.List.{length_push}
 use Rattle.std.proofs.lemmas.List.Sums.{sum_by-cons}
@@ -14,10 +17,10 @@ use Rattle.cfj_model.specs.declared.class.Sent.{Sent}
 use Rattle.cfj_model.specs.declared.class.Constructor.{Constructor}
 use Rattle.cfj_model.specs.declared.class.Class.{Class}
 use Rattle.cfj_model.specs.Names.{is_identifier, is_short_identifier}
-use Rattle.cfj_model.specs.Tokens.{Token, Comma, CloseParen, OpenBrace, SuperWord, OpenParen, Semicolon, CloseBrace}
-use Rattle.cfj_model.specs.ProductLines.{most_classes, most_fields, most_in_ctor, most_size, object, has, are_new, rise_from, is_field, is_param, is_sent, are_fields, is_ctor, is_class, class_size, size, IsProject}
-use Rattle.cfj_model.specs.Grammar.{Declared, Named, ClassTree, Tree, in_order, each_behind, separated, spell_field, spell_param, spell_sent, spell_assign, spell_ctor, spell_class, spell, numbered, value_field, value_param, value_sent, value_ctor, value_class, value}
-use Rattle.cfj_model.specs.Roles.{Role, class_name, field_name, param_name, sent_name, assigned_name, used_name, plain, roles_field, roles_param, roles_sent, roles_assign, roles_ctor, roles_class, roles, Tally, nothing, counted, first_of, is_long, broken_by, AreWithin}
+use Rattle.cfj_model.specs.Tokens.{Token, Id, ClassWord, ExtendsWord, ThisWord, Dot, Equals, Comma, CloseParen, OpenBrace, SuperWord, OpenParen, Semicolon, CloseBrace}
+use Rattle.cfj_model.specs.ProductLines.{most_features, most_classes, most_fields, most_in_ctor, most_size, object, has, are_new, are_known, rise_from, is_field, is_param, is_sent, are_fields, is_ctor, is_class, class_size, size, IsProject}
+use Rattle.cfj_model.specs.Grammar.{Declared, Named, ClassTree, Tree, in_order, each_behind, separated, features_word, spell_name, spell_features, spell_marks, spell_field, spell_param, spell_sent, spell_assign, spell_ctor, spell_class, spell, numbered, color_at, color_of, colored, colors_of, value_field, value_param, value_sent, value_ctor, value_class, value}
+use Rattle.cfj_model.specs.Roles.{Role, feature_name, class_name, field_name, param_name, sent_name, assigned_name, used_name, plain, roles_feature, roles_features, roles_marks, roles_field, roles_param, roles_sent, roles_assign, roles_ctor, roles_class, roles, Tally, nothing, counted, first_of, is_long, broken_by, AreWithin}
 use Rattle.fj_parser.specs.Machine.{are_read}
 
 -- no test holds
@@ -90,115 +93,216 @@ separated_read f (x ∷ xs) more r = r
 sized : (t : Tally) (m n : ℕ) (rest : List Role) → m ≡ n → AreWithin (record t { size = m }) rest → AreWithin (record t { size = n }) rest
 sized t m n rest e w = subst (λ x. AreWithin (record t { size = x }) rest) e w
 
--- what is known behind the fields of a class
-record FieldsKept (t : Tally) (fields : List Field) (rest : List Role) (more : List Token) : Type 0 where
+-- ---- colours
+
+-- a mark's colour is a feature's, or none
+color_below : (features : List (List ℕ)) (m : List ℕ) → color_of features m < 2 ^ length features
+color_below features m =
+    cond_both (nat_lt (position_or_len (λ f. bytes_eq f m) features) (length features)) (Some (position_or_len (λ f. bytes_eq f m) features)) None (λ o. color_at o < 2 ^ length features)
+    (λ e. let below : position_or_len (λ f. bytes_eq f m) features < length features = ltb-true (position_or_len (λ f. bytes_eq f m) features) (length features) e in pow-lt below)
+    (λ e. pow_pos (length features))
+
+-- More marks keep a set's colours among the features.
+colored_below : (features : List (List ℕ)) (colors : ℕ) (ms : List (List ℕ)) → colors < 2 ^ length features → colored features colors ms < 2 ^ length features
+colored_below features colors [] h = h
+colored_below features colors (m ∷ ms) h = colored_below features (bit_or colors (color_of features m)) ms (or_lt (length features) colors (color_of features m) h (color_below features m))
+
+-- the colours of a node are features
+known : (features ms : List (List ℕ)) → are_known (length features) (colors_of features ms) ≡ true
+known features ms = lt-ltb (colors_of features ms) (2 ^ length features) (colored_below features 0 ms (pow_pos (length features)))
+
+-- ---- marks
+
+-- what is known behind the marks of a node
+record MarksKept (t : Tally) (rest : List Role) (more : List Token) : Type 0 where
+  marks : List (List ℕ)
+  within : AreWithin (record t { marks = marks }) rest
+  read : are_read more ≡ true
+
+marks_kept : (t : Tally) (ms : List (List ℕ)) (rest : List Role) (more : List Token) → AreWithin t (roles_marks ms rest) → are_read (spell_marks ms more) ≡ true → MarksKept t rest more
+marks_kept t [] rest more w r = record { marks = t.marks; within = w; read = r }
+marks_kept t (m ∷ ms) rest more (at, (name, w)) r =
+    let u : Tally = record t { marks = t.marks ++ m ∷ [] } in
+    let k : MarksKept u rest more = marks_kept u ms rest more w (and_parts (is_identifier m) (are_read (spell_marks ms more)) r).1 in
+    record { marks = k.marks; within = k.within; read = k.read }
+
+-- ---- features
+
+-- a new name of a feature, with room for it
+record FeatureFits (w : List ℕ) (names : List (List ℕ)) : Type 0 where
+  length_fits : is_long w ≡ false
+  new : has names w ≡ false
+  few : length names < most_features
+
+feature_fits : (t : Tally) (w : List ℕ) → broken_by t (feature_name w) ≡ None → FeatureFits w t.features
+feature_fits t w e = go (none_holds ((is_long w, Limit limit.Name) ∷ ((has t.features w, Twice w) ∷ ((nat_le most_features (length t.features), Limit limit.Features) ∷ []))) e)
+  where
+    go : NoneHolds ((is_long w, Limit limit.Name) ∷ ((has t.features w, Twice w) ∷ ((nat_le most_features (length t.features), Limit limit.Features) ∷ []))) → FeatureFits w t.features
+    go (a, (b, (c, end))) = record { length_fits = a; new = b; few = leb-false _ _ c }
+
+-- what is known behind features
+record FeaturesKept (t : Tally) (features : List (List ℕ)) (rest : List Role) (more : List Token) : Type 0 where
+  names : List (List ℕ)
+  new : are_new t.features features ≡ true
+  few : length t.features + length features ≤ most_features
+  each : list_all is_short_identifier features ≡ true
+  within : AreWithin (record t { features = names }) rest
+  read : are_read more ≡ true
+
+features_kept : (t : Tally) (fs : List (List ℕ)) (rest : List Role) (more : List Token) → length t.features ≤ most_features → AreWithin t (each_behind plain roles_feature fs rest) → are_read (each_behind Comma spell_name fs more) ≡ true → FeaturesKept t fs rest more
+features_kept t [] rest more few w r = record { names = t.features; new = refl; few = omega arith; each = refl; within = w; read = r }
+features_kept t (f ∷ fs) rest more few (comma, (named, w)) r =
+    let fits : FeatureFits f t.features = feature_fits t f named in
+    let i : (is_identifier f ≡ true) × (are_read (each_behind Comma spell_name fs more) ≡ true) = and_parts (is_identifier f) (are_read (each_behind Comma spell_name fs more)) r in
+    let u : Tally = counted t (feature_name f) in
+    let k : FeaturesKept u fs rest more = features_kept u fs rest more (omega (arith, length_push t.features f, fits.few)) w i.1 in
+    record {
+      names = k.names;
+      new = and_from _ _ (not_from_false _ fits.new) k.new;
+      few = omega (arith, length_push t.features f, k.few);
+      each = and_from _ _ (short f i.0 fits.length_fits) k.each;
+      within = k.within;
+      read = k.read;
+    }
+
+-- A feature line breaks nothing where it is kept.
+line_kept : (fs : List (List ℕ)) (rest : List Role) (more : List Token) → AreWithin nothing (roles_features fs rest) → are_read (spell_features fs more) ≡ true → FeaturesKept nothing fs rest more
+line_kept [] rest more w r = record { names = []; new = refl; few = omega arith; each = refl; within = w; read = r }
+line_kept (f ∷ fs) rest more (word, w) r =
+    let k : FeaturesKept nothing (f ∷ fs) (plain ∷ rest) (Semicolon ∷ more) = features_kept nothing (f ∷ fs) (plain ∷ rest) (Semicolon ∷ more) (omega arith) (refl, w) (and_parts (is_identifier features_word) (are_read (spell_name f (each_behind Comma spell_name fs (Semicolon ∷ more)))) r).1 in
+    record { names = k.names; new = k.new; few = k.few; each = k.each; within = k.within.1; read = k.read }
+
+-- ---- fields
+
+-- what is known behind the fields of a class, of so many features
+record FieldsKept (n : ℕ) (t : Tally) (fields : List Field) (rest : List Role) (more : List Token) : Type 0 where
+  marks : List (List ℕ)
   names : List (List ℕ)
   new : are_new t.fields (map (λ f. f.name) fields) ≡ true
   few : length t.fields + length fields ≤ most_fields
-  each : list_all (is_field 0) fields ≡ true
+  each : list_all (is_field n) fields ≡ true
   small : t.size + length fields ≤ most_size
-  within : AreWithin (record t { fields = names; size = t.size + length fields }) rest
+  within : AreWithin (record t { marks = marks; fields = names; size = t.size + length fields }) rest
   read : are_read more ≡ true
 
-fields_kept : (t : Tally) (ds : List Declared) (rest : List Role) (more : List Token) → length t.fields ≤ most_fields → t.size ≤ most_size → AreWithin t (in_order roles_field ds rest) → are_read (in_order spell_field ds more) ≡ true → FieldsKept t (map value_field ds) rest more
-fields_kept t [] rest more few small w r = record { names = t.fields; new = refl; few = omega arith; each = refl; small = omega arith; within = subst (λ n. AreWithin (record t { size = n }) rest) (omega arith) w; read = r }
-fields_kept t (d ∷ ds) rest more few small (of, (named, (semicolon, w))) r = go (name_fits d.name t.fields most_fields t.size (Limit limit.Name) (Twice d.name) (Limit limit.Fields) (Limit limit.Size) named) (and_parts (is_identifier d.of) _ r) (λ p q. fields_kept (counted t (field_name d.name)) ds rest more p q w)
-  where
-    go : NameFits d.name t.fields most_fields t.size → ((is_identifier d.of ≡ true) × ((is_identifier d.name && are_read (in_order spell_field ds more)) ≡ true)) → (length (t.fields ++ d.name ∷ []) ≤ most_fields → t.size + 1 ≤ most_size → are_read (in_order spell_field ds more) ≡ true → FieldsKept (counted t (field_name d.name)) (map value_field ds) rest more) → FieldsKept t (map value_field (d ∷ ds)) rest more
-    go fits (i, j) onwards =
-        let k : FieldsKept (counted t (field_name d.name)) (map value_field ds) rest more = onwards (omega (arith, length_push t.fields d.name)) (omega arith) (and_parts (is_identifier d.name) (are_read (in_order spell_field ds more)) j).1 in
-        record {
-          names = k.names;
-          new = and_from _ _ (not_from_false _ fits.new) k.new;
-          few = omega (arith, length_push t.fields d.name, k.few);
-          each = and_from _ _ (and_from _ _ (used_short d.of t i of) (short d.name (and_parts _ _ j).0 fits.length_fits)) k.each;
-          small = omega (arith, k.small);
-          within = subst (λ n. AreWithin (record t { fields = k.names; size = n }) rest) (omega arith) k.within;
-          read = k.read;
-        }
+fields_kept : (features : List (List ℕ)) (t : Tally) (ds : List Declared) (rest : List Role) (more : List Token) → length t.fields ≤ most_fields → t.size ≤ most_size → AreWithin t (in_order roles_field ds rest) → are_read (in_order spell_field ds more) ≡ true → FieldsKept (length features) t (map (value_field features) ds) rest more
+fields_kept features t [] rest more few small w r = record { marks = t.marks; names = t.fields; new = refl; few = omega arith; each = refl; small = omega arith; within = subst (λ n. AreWithin (record t { size = n }) rest) (omega arith) w; read = r }
+fields_kept features t (d ∷ ds) rest more few small w r =
+    let after : List Token = in_order spell_field ds more in
+    let m : MarksKept t (used_name d.of ∷ (field_name d.name ∷ (plain ∷ in_order roles_field ds rest))) (Id d.of ∷ (Id d.name ∷ (Semicolon ∷ after))) = marks_kept t d.marks (used_name d.of ∷ (field_name d.name ∷ (plain ∷ in_order roles_field ds rest))) (Id d.of ∷ (Id d.name ∷ (Semicolon ∷ after))) w r in
+    let fits : NameFits d.name t.fields most_fields t.size = name_fits d.name t.fields most_fields t.size (Limit limit.Name) (Twice d.name) (Limit limit.Fields) (Limit limit.Size) m.within.1.0 in
+    let i : (is_identifier d.of ≡ true) × ((is_identifier d.name && are_read after) ≡ true) = and_parts (is_identifier d.of) (is_identifier d.name && are_read after) m.read in
+    let j : (is_identifier d.name ≡ true) × (are_read after ≡ true) = and_parts (is_identifier d.name) (are_read after) i.1 in
+    let u : Tally = record t { marks = []; fields = t.fields ++ d.name ∷ []; size = t.size + 1 } in
+    let k : FieldsKept (length features) u (map (value_field features) ds) rest more = fields_kept features u ds rest more (omega (arith, length_push t.fields d.name, fits.few)) (omega (arith, fits.small)) m.within.1.1.1 j.1 in
+    record {
+      marks = k.marks;
+      names = k.names;
+      new = and_from _ _ (not_from_false _ fits.new) k.new;
+      few = omega (arith, length_push t.fields d.name, k.few);
+      each = and_from _ _ (and_from _ _ (and_from _ _ (known features d.marks) (used_short d.of t i.0 m.within.0)) (short d.name j.0 fits.length_fits)) k.each;
+      small = omega (arith, k.small);
+      within = subst (λ n. AreWithin (record t { marks = k.marks; fields = k.names; size = n }) rest) (omega arith) k.within;
+      read = k.read;
+    }
+
+-- ---- constructors
 
 -- what is known behind the parameters of a constructor, from a slot on
-record ParamsKept (t : Tally) (slot : ℕ) (params : List Param) (rest : List Role) (more : List Token) : Type 0 where
+record ParamsKept (n : ℕ) (t : Tally) (slot : ℕ) (params : List Param) (rest : List Role) (more : List Token) : Type 0 where
+  marks : List (List ℕ)
   names : List (List ℕ)
   new : are_new t.params (map (λ p. p.name) params) ≡ true
   rises : rise_from slot (map (λ p. p.slot) params) ≡ true
   few : length t.params + length params ≤ most_in_ctor
-  each : list_all (is_param 0) params ≡ true
+  each : list_all (is_param n) params ≡ true
   small : t.size + length params ≤ most_size
-  within : AreWithin (record t { params = names; size = t.size + length params }) rest
+  within : AreWithin (record t { marks = marks; params = names; size = t.size + length params }) rest
   read : are_read more ≡ true
 
-params_kept : (t : Tally) (slot : ℕ) (ds : List Declared) (rest : List Role) (more : List Token) → length t.params ≤ most_in_ctor → t.size ≤ most_size → AreWithin t (each_behind plain roles_param ds rest) → are_read (each_behind Comma spell_param ds more) ≡ true → ParamsKept t slot (numbered value_param slot ds) rest more
-params_kept t slot [] rest more few small w r = record { names = t.params; new = refl; rises = refl; few = omega arith; each = refl; small = omega arith; within = subst (λ n. AreWithin (record t { size = n }) rest) (omega arith) w; read = r }
-params_kept t slot (d ∷ ds) rest more few small (comma, (of, (named, w))) r = go (name_fits d.name t.params most_in_ctor t.size (Limit limit.Name) (Twice d.name) (Limit limit.Ctor) (Limit limit.Size) named) (and_parts (is_identifier d.of) _ r) (λ p q. params_kept (counted t (param_name d.name)) (slot + 1) ds rest more p q w)
-  where
-    go : NameFits d.name t.params most_in_ctor t.size → ((is_identifier d.of ≡ true) × ((is_identifier d.name && are_read (each_behind Comma spell_param ds more)) ≡ true)) → (length (t.params ++ d.name ∷ []) ≤ most_in_ctor → t.size + 1 ≤ most_size → are_read (each_behind Comma spell_param ds more) ≡ true → ParamsKept (counted t (param_name d.name)) (slot + 1) (numbered value_param (slot + 1) ds) rest more) → ParamsKept t slot (numbered value_param slot (d ∷ ds)) rest more
-    go fits (i, j) onwards =
-        let k : ParamsKept (counted t (param_name d.name)) (slot + 1) (numbered value_param (slot + 1) ds) rest more = onwards (omega (arith, length_push t.params d.name)) (omega arith) (and_parts (is_identifier d.name) (are_read (each_behind Comma spell_param ds more)) j).1 in
-        record {
-          names = k.names;
-          new = and_from _ _ (not_from_false _ fits.new) k.new;
-          rises = and_from _ _ (le-leb slot slot (omega arith)) k.rises;
-          few = omega (arith, length_push t.params d.name, k.few);
-          each = and_from _ _ (and_from _ _ (used_short d.of t i of) (short d.name (and_parts _ _ j).0 fits.length_fits)) k.each;
-          small = omega (arith, k.small);
-          within = subst (λ n. AreWithin (record t { params = k.names; size = n }) rest) (omega arith) k.within;
-          read = k.read;
-        }
+params_kept : (features : List (List ℕ)) (t : Tally) (slot : ℕ) (ds : List Declared) (rest : List Role) (more : List Token) → length t.params ≤ most_in_ctor → t.size ≤ most_size → AreWithin t (each_behind plain roles_param ds rest) → are_read (each_behind Comma spell_param ds more) ≡ true → ParamsKept (length features) t slot (numbered (value_param features) slot ds) rest more
+params_kept features t slot [] rest more few small w r = record { marks = t.marks; names = t.params; new = refl; rises = refl; few = omega arith; each = refl; small = omega arith; within = subst (λ n. AreWithin (record t { size = n }) rest) (omega arith) w; read = r }
+params_kept features t slot (d ∷ ds) rest more few small (comma, w) r =
+    let after : List Token = each_behind Comma spell_param ds more in
+    let m : MarksKept t (used_name d.of ∷ (param_name d.name ∷ each_behind plain roles_param ds rest)) (Id d.of ∷ (Id d.name ∷ after)) = marks_kept t d.marks (used_name d.of ∷ (param_name d.name ∷ each_behind plain roles_param ds rest)) (Id d.of ∷ (Id d.name ∷ after)) w r in
+    let fits : NameFits d.name t.params most_in_ctor t.size = name_fits d.name t.params most_in_ctor t.size (Limit limit.Name) (Twice d.name) (Limit limit.Ctor) (Limit limit.Size) m.within.1.0 in
+    let i : (is_identifier d.of ≡ true) × ((is_identifier d.name && are_read after) ≡ true) = and_parts (is_identifier d.of) (is_identifier d.name && are_read after) m.read in
+    let j : (is_identifier d.name ≡ true) × (are_read after ≡ true) = and_parts (is_identifier d.name) (are_read after) i.1 in
+    let u : Tally = record t { marks = []; params = t.params ++ d.name ∷ []; size = t.size + 1 } in
+    let k : ParamsKept (length features) u (slot + 1) (numbered (value_param features) (slot + 1) ds) rest more = params_kept features u (slot + 1) ds rest more (omega (arith, length_push t.params d.name, fits.few)) (omega (arith, fits.small)) m.within.1.1 j.1 in
+    record {
+      marks = k.marks;
+      names = k.names;
+      new = and_from _ _ (not_from_false _ fits.new) k.new;
+      rises = and_from _ _ (le-leb slot slot (omega arith)) k.rises;
+      few = omega (arith, length_push t.params d.name, k.few);
+      each = and_from _ _ (and_from _ _ (and_from _ _ (known features d.marks) (used_short d.of t i.0 m.within.0)) (short d.name j.0 fits.length_fits)) k.each;
+      small = omega (arith, k.small);
+      within = subst (λ n. AreWithin (record t { marks = k.marks; params = k.names; size = n }) rest) (omega arith) k.within;
+      read = k.read;
+    }
 
 -- what is known behind the names that a constructor sends, from a slot on
-record SendsKept (t : Tally) (slot : ℕ) (sends : List Sent) (rest : List Role) (more : List Token) : Type 0 where
+record SendsKept (n : ℕ) (t : Tally) (slot : ℕ) (sends : List Sent) (rest : List Role) (more : List Token) : Type 0 where
+  marks : List (List ℕ)
   count : ℕ
   rises : rise_from slot (map (λ s. s.slot) sends) ≡ true
   few : t.sends + length sends ≤ most_in_ctor
-  each : list_all (is_sent 0) sends ≡ true
+  each : list_all (is_sent n) sends ≡ true
   small : t.size + length sends ≤ most_size
-  within : AreWithin (record t { sends = count; size = t.size + length sends }) rest
+  within : AreWithin (record t { marks = marks; sends = count; size = t.size + length sends }) rest
   read : are_read more ≡ true
 
-sends_kept : (t : Tally) (slot : ℕ) (ss : List Named) (rest : List Role) (more : List Token) → t.sends ≤ most_in_ctor → t.size ≤ most_size → AreWithin t (each_behind plain roles_sent ss rest) → are_read (each_behind Comma spell_sent ss more) ≡ true → SendsKept t slot (numbered value_sent slot ss) rest more
-sends_kept t slot [] rest more few small w r = record { count = t.sends; rises = refl; few = omega arith; each = refl; small = omega arith; within = subst (λ n. AreWithin (record t { size = n }) rest) (omega arith) w; read = r }
-sends_kept t slot (d ∷ ds) rest more few small (comma, (named, w)) r = go (count_fits d.name t.sends most_in_ctor t.size (Limit limit.Name) (Limit limit.Ctor) (Limit limit.Size) named) (and_parts (is_identifier d.name) _ r) (λ p q. sends_kept (counted t (sent_name d.name)) (slot + 1) ds rest more p q w)
-  where
-    go : CountFits d.name t.sends most_in_ctor t.size → ((is_identifier d.name ≡ true) × (are_read (each_behind Comma spell_sent ds more) ≡ true)) → (t.sends + 1 ≤ most_in_ctor → t.size + 1 ≤ most_size → are_read (each_behind Comma spell_sent ds more) ≡ true → SendsKept (counted t (sent_name d.name)) (slot + 1) (numbered value_sent (slot + 1) ds) rest more) → SendsKept t slot (numbered value_sent slot (d ∷ ds)) rest more
-    go fits (i, j) onwards =
-        let k : SendsKept (counted t (sent_name d.name)) (slot + 1) (numbered value_sent (slot + 1) ds) rest more = onwards (omega arith) (omega arith) j in
-        record {
-          count = k.count;
-          rises = and_from _ _ (le-leb slot slot (omega arith)) k.rises;
-          few = omega (arith, k.few);
-          each = and_from _ _ (short d.name i fits.length_fits) k.each;
-          small = omega (arith, k.small);
-          within = subst (λ n. AreWithin (record t { sends = k.count; size = n }) rest) (omega arith) k.within;
-          read = k.read;
-        }
+sends_kept : (features : List (List ℕ)) (t : Tally) (slot : ℕ) (ss : List Named) (rest : List Role) (more : List Token) → t.sends ≤ most_in_ctor → t.size ≤ most_size → AreWithin t (each_behind plain roles_sent ss rest) → are_read (each_behind Comma spell_sent ss more) ≡ true → SendsKept (length features) t slot (numbered (value_sent features) slot ss) rest more
+sends_kept features t slot [] rest more few small w r = record { marks = t.marks; count = t.sends; rises = refl; few = omega arith; each = refl; small = omega arith; within = subst (λ n. AreWithin (record t { size = n }) rest) (omega arith) w; read = r }
+sends_kept features t slot (d ∷ ds) rest more few small (comma, w) r =
+    let after : List Token = each_behind Comma spell_sent ds more in
+    let m : MarksKept t (sent_name d.name ∷ each_behind plain roles_sent ds rest) (Id d.name ∷ after) = marks_kept t d.marks (sent_name d.name ∷ each_behind plain roles_sent ds rest) (Id d.name ∷ after) w r in
+    let fits : CountFits d.name t.sends most_in_ctor t.size = count_fits d.name t.sends most_in_ctor t.size (Limit limit.Name) (Limit limit.Ctor) (Limit limit.Size) m.within.0 in
+    let i : (is_identifier d.name ≡ true) × (are_read after ≡ true) = and_parts (is_identifier d.name) (are_read after) m.read in
+    let u : Tally = record t { marks = []; sends = t.sends + 1; size = t.size + 1 } in
+    let k : SendsKept (length features) u (slot + 1) (numbered (value_sent features) (slot + 1) ds) rest more = sends_kept features u (slot + 1) ds rest more (omega (arith, fits.few)) (omega (arith, fits.small)) m.within.1 i.1 in
+    record {
+      marks = k.marks;
+      count = k.count;
+      rises = and_from _ _ (le-leb slot slot (omega arith)) k.rises;
+      few = omega (arith, k.few);
+      each = and_from _ _ (and_from _ _ (known features d.marks) (short d.name i.0 fits.length_fits)) k.each;
+      small = omega (arith, k.small);
+      within = subst (λ n. AreWithin (record t { marks = k.marks; sends = k.count; size = n }) rest) (omega arith) k.within;
+      read = k.read;
+    }
 
 -- what is known behind the assignments of a constructor, from a slot on
-record AssignsKept (t : Tally) (slot : ℕ) (assigns : List Sent) (rest : List Role) (more : List Token) : Type 0 where
+record AssignsKept (n : ℕ) (t : Tally) (slot : ℕ) (assigns : List Sent) (rest : List Role) (more : List Token) : Type 0 where
+  marks : List (List ℕ)
   count : ℕ
   rises : rise_from slot (map (λ s. s.slot) assigns) ≡ true
   few : t.assigns + length assigns ≤ most_in_ctor
-  each : list_all (is_sent 0) assigns ≡ true
+  each : list_all (is_sent n) assigns ≡ true
   small : t.size + length assigns ≤ most_size
-  within : AreWithin (record t { assigns = count; size = t.size + length assigns }) rest
+  within : AreWithin (record t { marks = marks; assigns = count; size = t.size + length assigns }) rest
   read : are_read more ≡ true
 
-assigns_kept : (t : Tally) (slot : ℕ) (ss : List Named) (rest : List Role) (more : List Token) → t.assigns ≤ most_in_ctor → t.size ≤ most_size → AreWithin t (in_order roles_assign ss rest) → are_read (in_order spell_assign ss more) ≡ true → AssignsKept t slot (numbered value_sent slot ss) rest more
-assigns_kept t slot [] rest more few small w r = record { count = t.assigns; rises = refl; few = omega arith; each = refl; small = omega arith; within = subst (λ n. AreWithin (record t { size = n }) rest) (omega arith) w; read = r }
-assigns_kept t slot (d ∷ ds) rest more few small (this, (dot, (named, (equals, (again, (semicolon, w)))))) r = go (count_fits d.name t.assigns most_in_ctor t.size (Limit limit.Name) (Limit limit.Ctor) (Limit limit.Size) named) (and_parts (is_identifier d.name) _ r) (λ p q. assigns_kept (counted t (assigned_name d.name)) (slot + 1) ds rest more p q w)
-  where
-    go : CountFits d.name t.assigns most_in_ctor t.size → ((is_identifier d.name ≡ true) × ((is_identifier d.name && are_read (in_order spell_assign ds more)) ≡ true)) → (t.assigns + 1 ≤ most_in_ctor → t.size + 1 ≤ most_size → are_read (in_order spell_assign ds more) ≡ true → AssignsKept (counted t (assigned_name d.name)) (slot + 1) (numbered value_sent (slot + 1) ds) rest more) → AssignsKept t slot (numbered value_sent slot (d ∷ ds)) rest more
-    go fits (i, j) onwards =
-        let k : AssignsKept (counted t (assigned_name d.name)) (slot + 1) (numbered value_sent (slot + 1) ds) rest more = onwards (omega arith) (omega arith) (and_parts (is_identifier d.name) (are_read (in_order spell_assign ds more)) j).1 in
-        record {
-          count = k.count;
-          rises = and_from _ _ (le-leb slot slot (omega arith)) k.rises;
-          few = omega (arith, k.few);
-          each = and_from _ _ (short d.name i fits.length_fits) k.each;
-          small = omega (arith, k.small);
-          within = subst (λ n. AreWithin (record t { assigns = k.count; size = n }) rest) (omega arith) k.within;
-          read = k.read;
-        }
+assigns_kept : (features : List (List ℕ)) (t : Tally) (slot : ℕ) (ss : List Named) (rest : List Role) (more : List Token) → t.assigns ≤ most_in_ctor → t.size ≤ most_size → AreWithin t (in_order roles_assign ss rest) → are_read (in_order spell_assign ss more) ≡ true → AssignsKept (length features) t slot (numbered (value_sent features) slot ss) rest more
+assigns_kept features t slot [] rest more few small w r = record { marks = t.marks; count = t.assigns; rises = refl; few = omega arith; each = refl; small = omega arith; within = subst (λ n. AreWithin (record t { size = n }) rest) (omega arith) w; read = r }
+assigns_kept features t slot (d ∷ ds) rest more few small w r =
+    let after : List Token = in_order spell_assign ds more in
+    let m : MarksKept t (plain ∷ (plain ∷ (assigned_name d.name ∷ (plain ∷ (used_name d.name ∷ (plain ∷ in_order roles_assign ds rest)))))) (ThisWord ∷ (Dot ∷ (Id d.name ∷ (Equals ∷ (Id d.name ∷ (Semicolon ∷ after)))))) = marks_kept t d.marks (plain ∷ (plain ∷ (assigned_name d.name ∷ (plain ∷ (used_name d.name ∷ (plain ∷ in_order roles_assign ds rest)))))) (ThisWord ∷ (Dot ∷ (Id d.name ∷ (Equals ∷ (Id d.name ∷ (Semicolon ∷ after)))))) w r in
+    let fits : CountFits d.name t.assigns most_in_ctor t.size = count_fits d.name t.assigns most_in_ctor t.size (Limit limit.Name) (Limit limit.Ctor) (Limit limit.Size) m.within.1.1.0 in
+    let i : (is_identifier d.name ≡ true) × ((is_identifier d.name && are_read after) ≡ true) = and_parts (is_identifier d.name) (is_identifier d.name && are_read after) m.read in
+    let u : Tally = record t { marks = []; assigns = t.assigns + 1; size = t.size + 1 } in
+    let k : AssignsKept (length features) u (slot + 1) (numbered (value_sent features) (slot + 1) ds) rest more = assigns_kept features u (slot + 1) ds rest more (omega (arith, fits.few)) (omega (arith, fits.small)) m.within.1.1.1.1.1.1 (and_parts (is_identifier d.name) (are_read after) i.1).1 in
+    record {
+      marks = k.marks;
+      count = k.count;
+      rises = and_from _ _ (le-leb slot slot (omega arith)) k.rises;
+      few = omega (arith, k.few);
+      each = and_from _ _ (and_from _ _ (known features d.marks) (short d.name i.0 fits.length_fits)) k.each;
+      small = omega (arith, k.small);
+      within = subst (λ n. AreWithin (record t { marks = k.marks; assigns = k.count; size = n }) rest) (omega arith) k.within;
+      read = k.read;
+    }
 
 -- what follows the parameters, and what follows the names that are sent
 abbrev tokens_behind_sends : ClassTree → List Token → List Token
@@ -214,104 +318,118 @@ abbrev roles_behind_params : ClassTree → List Role → List Role
 roles_behind_params k rest = plain ∷ (plain ∷ (plain ∷ (plain ∷ separated plain roles_sent k.sends (roles_behind_sends k rest))))
 
 -- before a constructor
-abbrev before_ctor : List (List ℕ) → List (List ℕ) → ℕ → Tally
-before_ctor classes fields size = record { classes = classes; fields = fields; params = []; sends = 0; assigns = 0; size = size }
+abbrev before_ctor : Tally → List (List ℕ) → List (List ℕ) → ℕ → Tally
+before_ctor t marks fields size = record t { marks = marks; fields = fields; params = []; sends = 0; assigns = 0; size = size }
 
 -- how much a constructor adds to the size
 abbrev ctor_size : Constructor → ℕ
 ctor_size c = length c.params + (length c.sends + length c.assigns)
 
 -- what is known behind a constructor
-record CtorKept (classes fields : List (List ℕ)) (size : ℕ) (c : Constructor) (rest : List Role) (more : List Token) : Type 0 where
+record CtorKept (n : ℕ) (t : Tally) (fields : List (List ℕ)) (size : ℕ) (c : Constructor) (rest : List Role) (more : List Token) : Type 0 where
+  marks : List (List ℕ)
   params : List (List ℕ)
   sends : ℕ
   assigns : ℕ
-  is : is_ctor 0 c ≡ true
+  is : is_ctor n c ≡ true
   small : size + ctor_size c ≤ most_size
-  within : AreWithin (record { classes = classes; fields = fields; params = params; sends = sends; assigns = assigns; size = size + ctor_size c }) rest
+  within : AreWithin (record t { marks = marks; fields = fields; params = params; sends = sends; assigns = assigns; size = size + ctor_size c }) rest
   read : are_read more ≡ true
 
-ctor_kept : (classes fields : List (List ℕ)) (n : ℕ) (k : ClassTree) (rest : List Role) (more : List Token) → n ≤ most_size → AreWithin (before_ctor classes fields n) (roles_ctor k rest) → are_read (spell_ctor k more) ≡ true → CtorKept classes fields n (value_ctor k) rest more
-ctor_kept classes fields n k rest more small (used, (opened, w)) r =
-    let t : Tally = before_ctor classes fields n in
-    let p : ParamsKept t 0 (numbered value_param 0 k.params) (roles_behind_params k rest) (tokens_behind_params k more) = params_kept t 0 k.params (roles_behind_params k rest) (tokens_behind_params k more) (omega arith) small (separated_within t roles_param k.params (roles_behind_params k rest) w) (separated_read spell_param k.params (tokens_behind_params k more) (and_parts (is_identifier k.name) _ r).1) in
-    let u : Tally = record t { params = p.names; size = n + length (numbered value_param 0 k.params) } in
-    let s : SendsKept u 0 (numbered value_sent 0 k.sends) (roles_behind_sends k rest) (tokens_behind_sends k more) = sends_kept u 0 k.sends (roles_behind_sends k rest) (tokens_behind_sends k more) (omega arith) p.small (separated_within u roles_sent k.sends (roles_behind_sends k rest) p.within.1.1.1.1) (separated_read spell_sent k.sends (tokens_behind_sends k more) p.read) in
-    let v : Tally = record u { sends = s.count; size = u.size + length (numbered value_sent 0 k.sends) } in
-    let a : AssignsKept v 0 (numbered value_sent 0 k.assigns) (plain ∷ rest) (CloseBrace ∷ more) = assigns_kept v 0 k.assigns (plain ∷ rest) (CloseBrace ∷ more) (omega arith) s.small s.within.1.1 s.read in
+ctor_kept : (features : List (List ℕ)) (before : Tally) (marks fields : List (List ℕ)) (n : ℕ) (k : ClassTree) (rest : List Role) (more : List Token) → n ≤ most_size → AreWithin (before_ctor before marks fields n) (roles_ctor k rest) → are_read (spell_ctor k more) ≡ true → CtorKept (length features) before fields n (value_ctor features k) rest more
+ctor_kept features before marks fields n k rest more small (used, (opened, w)) r =
+    let t : Tally = before_ctor before [] fields n in
+    let p : ParamsKept (length features) t 0 (numbered (value_param features) 0 k.params) (roles_behind_params k rest) (tokens_behind_params k more) = params_kept features t 0 k.params (roles_behind_params k rest) (tokens_behind_params k more) (omega arith) small (separated_within t roles_param k.params (roles_behind_params k rest) w) (separated_read spell_param k.params (tokens_behind_params k more) (and_parts (is_identifier k.name) _ r).1) in
+    let u : Tally = record t { marks = p.marks; params = p.names; size = n + length (numbered (value_param features) 0 k.params) } in
+    let s : SendsKept (length features) u 0 (numbered (value_sent features) 0 k.sends) (roles_behind_sends k rest) (tokens_behind_sends k more) = sends_kept features u 0 k.sends (roles_behind_sends k rest) (tokens_behind_sends k more) (omega arith) p.small (separated_within u roles_sent k.sends (roles_behind_sends k rest) p.within.1.1.1.1) (separated_read spell_sent k.sends (tokens_behind_sends k more) p.read) in
+    let v : Tally = record u { marks = s.marks; sends = s.count; size = u.size + length (numbered (value_sent features) 0 k.sends) } in
+    let a : AssignsKept (length features) v 0 (numbered (value_sent features) 0 k.assigns) (plain ∷ rest) (CloseBrace ∷ more) = assigns_kept features v 0 k.assigns (plain ∷ rest) (CloseBrace ∷ more) (omega arith) s.small s.within.1.1 s.read in
     record {
+      marks = a.marks;
       params = p.names;
       sends = s.count;
       assigns = a.count;
-      is = and_from _ _ (and_from _ _ (and_from _ _ (and_from _ _ (and_from _ _ (le-leb (length (numbered value_param 0 k.params)) most_in_ctor (omega (arith, p.few))) p.new) p.rises) p.each) (and_from _ _ (and_from _ _ (le-leb (length (numbered value_sent 0 k.sends)) most_in_ctor (omega (arith, s.few))) s.rises) s.each)) (and_from _ _ (and_from _ _ (le-leb (length (numbered value_sent 0 k.assigns)) most_in_ctor (omega (arith, a.few))) a.rises) a.each);
+      is = and_from _ _ (and_from _ _ (and_from _ _ (and_from _ _ (and_from _ _ (le-leb (length (numbered (value_param features) 0 k.params)) most_in_ctor (omega (arith, p.few))) p.new) p.rises) p.each) (and_from _ _ (and_from _ _ (le-leb (length (numbered (value_sent features) 0 k.sends)) most_in_ctor (omega (arith, s.few))) s.rises) s.each)) (and_from _ _ (and_from _ _ (le-leb (length (numbered (value_sent features) 0 k.assigns)) most_in_ctor (omega (arith, a.few))) a.rises) a.each);
       small = omega (arith, a.small);
-      within = sized (record v { assigns = a.count }) (v.size + length (numbered value_sent 0 k.assigns)) (n + ctor_size (value_ctor k)) rest (omega arith) a.within.1;
+      within = sized (record v { marks = a.marks; assigns = a.count }) (v.size + length (numbered (value_sent features) 0 k.assigns)) (n + ctor_size (value_ctor features k)) rest (omega arith) a.within.1;
       read = a.read;
     }
 
+-- ---- classes
+
 -- what is known behind a class
-record ClassKept (t : Tally) (k : Class) (rest : List Role) (more : List Token) : Type 0 where
+record ClassKept (n : ℕ) (t : Tally) (k : Class) (rest : List Role) (more : List Token) : Type 0 where
+  marks : List (List ℕ)
   fields : List (List ℕ)
   params : List (List ℕ)
   sends : ℕ
   assigns : ℕ
   new : has t.classes k.name ≡ false
   few : length t.classes < most_classes
-  is : is_class 0 k ≡ true
+  is : is_class n k ≡ true
   small : t.size + class_size k ≤ most_size
-  within : AreWithin (record { classes = t.classes ++ k.name ∷ []; fields = fields; params = params; sends = sends; assigns = assigns; size = t.size + class_size k }) rest
+  within : AreWithin (record { features = t.features; marks = marks; classes = t.classes ++ k.name ∷ []; fields = fields; params = params; sends = sends; assigns = assigns; size = t.size + class_size k }) rest
   read : are_read more ≡ true
 
-class_is : (k : ClassTree) → is_short_identifier k.name ≡ true → bytes_eq k.name object ≡ false → is_short_identifier k.parent ≡ true → are_fields 0 (map value_field k.fields) ≡ true → is_ctor 0 (value_ctor k) ≡ true → is_class 0 (value_class k) ≡ true
+class_is : (features : List (List ℕ)) (k : ClassTree) → is_short_identifier k.name ≡ true → bytes_eq k.name object ≡ false → is_short_identifier k.parent ≡ true → are_fields (length features) (map (value_field features) k.fields) ≡ true → is_ctor (length features) (value_ctor features k) ≡ true → is_class (length features) (value_class features k) ≡ true
 unfolding is_class
-class_is k a b c d e = and_from _ _ (and_from _ _ (and_from _ _ (and_from _ _ (and_from _ _ a (not_from_false _ b)) refl) c) d) e
+class_is features k a b c d e = and_from _ _ (and_from _ _ (and_from _ _ (and_from _ _ (and_from _ _ a (not_from_false _ b)) (known features k.marks)) c) d) e
 
-class_kept : (t : Tally) (k : ClassTree) (rest : List Role) (more : List Token) → AreWithin t (roles_class k rest) → are_read (spell_class k more) ≡ true → ClassKept t (value_class k) rest more
-class_kept t k rest more (start, (named, (extends, (parent, (opened, w))))) r = go (class_fits t k.name named) (and_parts (is_identifier k.name) _ r)
-  where
-    go : ClassFits t k.name → ((is_identifier k.name ≡ true) × ((is_identifier k.parent && are_read (in_order spell_field k.fields (spell_ctor k (CloseBrace ∷ more)))) ≡ true)) → ClassKept t (value_class k) rest more
-    go fits (i, j) =
-        let u : Tally = before_ctor (t.classes ++ k.name ∷ []) [] (t.size + 1) in
-        let f : FieldsKept u (map value_field k.fields) (roles_ctor k (plain ∷ rest)) (spell_ctor k (CloseBrace ∷ more)) = fields_kept u k.fields (roles_ctor k (plain ∷ rest)) (spell_ctor k (CloseBrace ∷ more)) (omega arith) (omega arith) w (and_parts (is_identifier k.parent) (are_read (in_order spell_field k.fields (spell_ctor k (CloseBrace ∷ more)))) j).1 in
-        let c : CtorKept (t.classes ++ k.name ∷ []) f.names (t.size + 1 + length (map value_field k.fields)) (value_ctor k) (plain ∷ rest) (CloseBrace ∷ more) = ctor_kept (t.classes ++ k.name ∷ []) f.names (t.size + 1 + length (map value_field k.fields)) k (plain ∷ rest) (CloseBrace ∷ more) f.small f.within f.read in
-        record {
-          fields = f.names;
-          params = c.params;
-          sends = c.sends;
-          assigns = c.assigns;
-          new = fits.new;
-          few = fits.few;
-          is = class_is k (short k.name i fits.length_fits) fits.no_object (used_short k.parent t (and_parts _ _ j).0 parent) (and_from _ _ (and_from _ _ (le-leb (length (map value_field k.fields)) most_fields (omega (arith, f.few))) f.new) f.each) c.is;
-          small = omega (arith, c.small);
-          within = sized (record u { fields = f.names; params = c.params; sends = c.sends; assigns = c.assigns }) (t.size + 1 + length (map value_field k.fields) + ctor_size (value_ctor k)) (t.size + class_size (value_class k)) rest (omega arith) c.within.1;
-          read = c.read;
-        }
+-- what follows the marks of a class, and what follows its name
+abbrev tokens_behind_name : ClassTree → List Token → List Token
+tokens_behind_name k more = ExtendsWord ∷ (Id k.parent ∷ (OpenBrace ∷ in_order spell_field k.fields (spell_ctor k (CloseBrace ∷ more))))
+
+abbrev roles_behind_name : ClassTree → List Role → List Role
+roles_behind_name k rest = plain ∷ (used_name k.parent ∷ (plain ∷ in_order roles_field k.fields (roles_ctor k (plain ∷ rest))))
+
+class_kept : (features : List (List ℕ)) (t : Tally) (k : ClassTree) (rest : List Role) (more : List Token) → AreWithin t (roles_class k rest) → are_read (spell_class k more) ≡ true → ClassKept (length features) t (value_class features k) rest more
+class_kept features t k rest more w r =
+    let m : MarksKept t (plain ∷ (class_name k.name ∷ roles_behind_name k rest)) (ClassWord ∷ (Id k.name ∷ tokens_behind_name k more)) = marks_kept t k.marks (plain ∷ (class_name k.name ∷ roles_behind_name k rest)) (ClassWord ∷ (Id k.name ∷ tokens_behind_name k more)) w r in
+    let fits : ClassFits t k.name = class_fits t k.name m.within.1.0 in
+    let after : List Token = in_order spell_field k.fields (spell_ctor k (CloseBrace ∷ more)) in
+    let i : (is_identifier k.name ≡ true) × ((is_identifier k.parent && are_read after) ≡ true) = and_parts (is_identifier k.name) (is_identifier k.parent && are_read after) m.read in
+    let j : (is_identifier k.parent ≡ true) × (are_read after ≡ true) = and_parts (is_identifier k.parent) (are_read after) i.1 in
+    let u : Tally = record t { marks = []; classes = t.classes ++ k.name ∷ []; fields = []; params = []; sends = 0; assigns = 0; size = t.size + 1 } in
+    let f : FieldsKept (length features) u (map (value_field features) k.fields) (roles_ctor k (plain ∷ rest)) (spell_ctor k (CloseBrace ∷ more)) = fields_kept features u k.fields (roles_ctor k (plain ∷ rest)) (spell_ctor k (CloseBrace ∷ more)) (omega arith) (omega (arith, fits.small)) m.within.1.1.1.1.1 j.1 in
+    let c : CtorKept (length features) u f.names (t.size + 1 + length (map (value_field features) k.fields)) (value_ctor features k) (plain ∷ rest) (CloseBrace ∷ more) = ctor_kept features u f.marks f.names (t.size + 1 + length (map (value_field features) k.fields)) k (plain ∷ rest) (CloseBrace ∷ more) f.small f.within f.read in
+    record {
+      marks = c.marks;
+      fields = f.names;
+      params = c.params;
+      sends = c.sends;
+      assigns = c.assigns;
+      new = fits.new;
+      few = fits.few;
+      is = class_is features k (short k.name i.0 fits.length_fits) fits.no_object (used_short k.parent t j.0 m.within.1.1.1.0) (and_from _ _ (and_from _ _ (le-leb (length (map (value_field features) k.fields)) most_fields (omega (arith, f.few))) f.new) f.each) c.is;
+      small = omega (arith, c.small);
+      within = sized (record u { marks = c.marks; fields = f.names; params = c.params; sends = c.sends; assigns = c.assigns }) (t.size + 1 + length (map (value_field features) k.fields) + ctor_size (value_ctor features k)) (t.size + class_size (value_class features k)) rest (omega arith) c.within.1;
+      read = c.read;
+    }
 
 -- what is known of all classes
-record ClassesKept (t : Tally) (classes : List Class) : Type 0 where
+record ClassesKept (n : ℕ) (t : Tally) (classes : List Class) : Type 0 where
   few : length t.classes + length classes ≤ most_classes
   new : are_new t.classes (map (λ k. k.name) classes) ≡ true
-  each : list_all (is_class 0) classes ≡ true
+  each : list_all (is_class n) classes ≡ true
   small : t.size + size classes ≤ most_size
 
-classes_kept : (t : Tally) (tree : Tree) → length t.classes ≤ most_classes → t.size ≤ most_size → AreWithin t (roles tree []) → are_read (spell tree []) ≡ true → ClassesKept t (map value_class tree)
-classes_kept t [] few small w r = record { few = omega arith; new = refl; each = refl; small = omega arith }
-classes_kept t (k ∷ tree) few small w r = go (class_kept t k (roles tree []) (spell tree []) w r) (λ u p q. classes_kept u tree p q)
-  where
-    go : ClassKept t (value_class k) (roles tree []) (spell tree []) → ((u : Tally) → length u.classes ≤ most_classes → u.size ≤ most_size → AreWithin u (roles tree []) → are_read (spell tree []) ≡ true → ClassesKept u (map value_class tree)) → ClassesKept t (map value_class (k ∷ tree))
-    go c onwards =
-        let u : Tally = record { classes = t.classes ++ k.name ∷ []; fields = c.fields; params = c.params; sends = c.sends; assigns = c.assigns; size = t.size + class_size (value_class k) } in
-        let sum : size (map value_class (k ∷ tree)) ≡ class_size (value_class k) + size (map value_class tree) = sum_by-cons class_size (value_class k) (map value_class tree) in
-        let all : ClassesKept u (map value_class tree) = onwards u (omega (arith, length_push t.classes k.name, c.few)) c.small c.within c.read in
-        record {
-          few = omega (arith, length_push t.classes k.name, all.few);
-          new = and_from _ _ (not_from_false _ c.new) all.new;
-          each = and_from _ _ c.is all.each;
-          small = omega (arith, all.small);
-        }
+classes_kept : (features : List (List ℕ)) (t : Tally) (ks : List ClassTree) → length t.classes ≤ most_classes → t.size ≤ most_size → AreWithin t (in_order roles_class ks []) → are_read (in_order spell_class ks []) ≡ true → ClassesKept (length features) t (map (value_class features) ks)
+classes_kept features t [] few small w r = record { few = omega arith; new = refl; each = refl; small = omega arith }
+classes_kept features t (k ∷ ks) few small w r =
+    let c : ClassKept (length features) t (value_class features k) (in_order roles_class ks []) (in_order spell_class ks []) = class_kept features t k (in_order roles_class ks []) (in_order spell_class ks []) w r in
+    let u : Tally = record { features = t.features; marks = c.marks; classes = t.classes ++ k.name ∷ []; fields = c.fields; params = c.params; sends = c.sends; assigns = c.assigns; size = t.size + class_size (value_class features k) } in
+    let sum : size (map (value_class features) (k ∷ ks)) ≡ class_size (value_class features k) + size (map (value_class features) ks) = sum_by-cons class_size (value_class features k) (map (value_class features) ks) in
+    let all : ClassesKept (length features) u (map (value_class features) ks) = classes_kept features u ks (omega (arith, length_push t.classes k.name, c.few)) c.small c.within c.read in
+    record {
+      few = omega (arith, length_push t.classes k.name, all.few);
+      new = and_from _ _ (not_from_false _ c.new) all.new;
+      each = and_from _ _ c.is all.each;
+      small = omega (arith, all.small);
+    }
 
 -- a tree whose tokens break nothing stands for what a project's type keeps
 pub kept : (tree : Tree) → AreWithin nothing (roles tree []) → are_read (spell tree []) ≡ true → IsProject (value tree)
 kept tree w r =
-    let all : ClassesKept nothing (map value_class tree) = classes_kept nothing tree (omega arith) (omega arith) w r in
-    record { few_features = refl; features_named = refl; features_distinct = refl; few_classes = le-leb _ _ (omega (arith, all.few)); classes_distinct = all.new; each_class = all.each; fits = le-leb _ _ (omega (arith, all.small)) }
+    let line : FeaturesKept nothing tree.features (in_order roles_class tree.classes []) (in_order spell_class tree.classes []) = line_kept tree.features (in_order roles_class tree.classes []) (in_order spell_class tree.classes []) w r in
+    let all : ClassesKept (length tree.features) (record nothing { features = line.names }) (map (value_class tree.features) tree.classes) = classes_kept tree.features (record nothing { features = line.names }) tree.classes (omega arith) (omega arith) line.within line.read in
+    record { few_features = le-leb _ _ (omega (arith, line.few)); features_named = line.each; features_distinct = line.new; few_classes = le-leb _ _ (omega (arith, all.few)); classes_distinct = all.new; each_class = all.each; fits = le-leb _ _ (omega (arith, all.small)) }

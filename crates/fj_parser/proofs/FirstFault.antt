@@ -1,5 +1,5 @@
 -- A text stands for one product line, or has one first fault, and not both.
-use Rattle.std.proofs.Common.{◌≡◌, ℕ, List, [], ◌∷◌, ◌++◌, map, refl, sym, ap, subst, ◌∙◌, Option, Some, None, chars}
+use Rattle.std.proofs.Common.{◌≡◌, ℕ, List, [], ◌∷◌, ◌++◌, length, map, refl, sym, ap, subst, ◌∙◌, Option, Some, None, chars, arith, length-append}
 use Rattle.std.proofs.lemmas.Bool.{true≢false}
 use Rattle.std.proofs.lemmas.Option.{none-some, same_Some, some_pair_parts}
 use Rattle.std.proofs.lemmas.List.{same_from_push}
@@ -12,7 +12,9 @@ use Rattle.cfj_model.specs.Grammar.{Tree, spell, value, value_class}
 use Rattle.cfj_model.specs.Roles.{Role, plain, roles, Tally, nothing, counted, tallied, broken_by, AreWithin}
 use Rattle.cfj_model.specs.Faults.{IsTextOf, Begins, IsMisplaced, reserved, other, no_name, IsFaultAt, misplaced, breaking, Front, lexical_fault, IsFirstFault, no_text, no_lexeme, no_place}
 use Rattle.fj_parser.specs.Machine.{State, behind, start, step, role, Run, then_run, run}
-use Rattle.fj_parser.proofs.Law.{on_from, run_append, run_more, classes_run, reads_begin, begins_reads}
+use Rattle.fj_parser.proofs.Law.{on_from, run_append, run_more, text_runs, reads_begin, begins_reads}
+use Rattle.fj_parser.proofs.Spelled.{spell_before, roles_before}
+use Rattle.fj_parser.specs.declared.mode.Mode.TheVariants as mode
 use Rattle.fj_parser.proofs.Texts.{takes_same, takes_split, Order, same, shorter, longer, takes_order}
 
 -- The roles of a front are one.
@@ -182,9 +184,32 @@ one_fault text at bt kind lind (no_place f t from k e fault) (no_text b never w)
 one_fault text at bt kind lind (no_place f t from k e fault) (no_lexeme g l place d) = one_stop f g (fronts_order text f g) (at_token t from k e fault) (lexical l place d)
 one_fault text at bt kind lind (no_place f t from k e fault) (no_place g u place l d wrong) = one_stop f g (fronts_order text f g) (at_token t from k e fault) (at_token u place l d wrong)
 
+-- the machine's state behind a tree and the end of the text
+abbrev at_end : Tree → State
+at_end tree = record (behind tree.features (map (value_class tree.features) tree.classes)) { mode = mode.AtEnd }
+
+-- Behind all classes the end may stand.
+ends : (tree : Tree) → Begins (spell tree [] ++ End ∷ []) (roles tree [] ++ plain ∷ [])
+ends tree =
+    subst (λ x. Begins x (roles tree [] ++ plain ∷ [])) (spell_before tree [] (End ∷ []))
+    (subst (Begins (spell tree (End ∷ []))) (roles_before tree [] (plain ∷ [])) (reads_begin (spell tree (End ∷ [])) (at_end tree) (roles tree (plain ∷ [])) (text_runs tree)))
+
+-- A text of the grammar begins with all its tokens.
+pub begun : (tree : Tree) → Begins (spell tree []) (roles tree [])
+begun tree =
+    let all : length (roles tree [] ++ plain ∷ []) ≡ length (spell tree [] ++ End ∷ []) = (ends tree).each in
+    record {
+      tree = tree;
+      more = End ∷ [];
+      others = plain ∷ [];
+      text = spell_before tree [] (End ∷ []);
+      in_roles = roles_before tree [] (plain ∷ []);
+      each = omega (arith, length-append (roles tree []) (plain ∷ []), length-append (spell tree []) (End ∷ []));
+    }
+
 -- A text of the grammar is a front that can go on and breaks nothing.
 abbrev pub whole_front : (text : List ℕ) (p : ProductLine) → IsTextOf text p → Front text
-whole_front text p is = record { utf8 = is.utf8; tokens = spell is.tree []; rest = is.rest; taken = is.spelled; roles = roles is.tree []; begins = reads_begin (spell is.tree []) (behind (map value_class is.tree)) (roles is.tree []) (classes_run is.tree); within = is.within }
+whole_front text p is = record { utf8 = is.utf8; tokens = spell is.tree []; rest = is.rest; taken = is.spelled; roles = roles is.tree []; begins = begun is.tree; within = is.within }
 
 end_found : {l : Lexeme} {from rest : List ℕ} → Found l from rest ≡ AtEnd → ⊥
 end_found e = cc e
@@ -196,10 +221,7 @@ end_ends {text} f g t more ended p = go (next_found (chars text) f.tokens t more
     go : ((l : Lexeme) × (from mid : List ℕ) × (next_lexeme f.rest ≡ Found l from mid) × (token_of l ≡ t)) → ⊥
     go (l, from, mid, found, is) = end_found (sym found ∙ ended)
 
--- Behind all classes the end may stand, and it breaks nothing.
-ends : (tree : Tree) → Begins (spell tree [] ++ End ∷ []) (roles tree [] ++ plain ∷ [])
-ends tree = reads_begin _ _ _ (run_more (spell tree []) End (behind (map value_class tree)) _ (roles tree []) (classes_run tree) refl)
-
+-- The end breaks nothing behind all classes.
 end_no_fault : (tree : Tree) (kind : FaultKind) → IsFaultAt (spell tree []) (roles tree []) End kind → ⊥
 end_no_fault tree kind (misplaced k never a) = never (roles tree [] ++ plain ∷ [], ends tree)
 end_no_fault tree kind (breaking k r b e) =
@@ -224,8 +246,9 @@ no_fault text p at kind is (no_place g t from k e fault) = no_stop p is g (at_to
 -- Trees that spell the same stand for the same.
 pub same_value : (a b : Tree) → spell a [] ≡ spell b [] → value a ≡ value b
 same_value a b e =
-    let ran : (Some (behind (map value_class a)), roles a []) ≡ (Some (behind (map value_class b)), roles b []) = sym (classes_run a) ∙ ap (λ x. run x start) e ∙ classes_run b in
-    ap (λ s. record { model = record { features = [] }; classes = s.classes }) (same_Some (behind (map value_class a)) (behind (map value_class b)) (ap (λ x. x.0) ran))
+    let ended : spell a (End ∷ []) ≡ spell b (End ∷ []) = spell_before a [] (End ∷ []) ∙ ap (λ x. x ++ End ∷ []) e ∙ sym (spell_before b [] (End ∷ [])) in
+    let ran : (Some (at_end a), roles a (plain ∷ [])) ≡ (Some (at_end b), roles b (plain ∷ [])) = sym (text_runs a) ∙ ap (λ x. run x start) ended ∙ text_runs b in
+    ap (λ s. record { model = record { features = s.features }; classes = s.classes }) (same_Some (at_end a) (at_end b) (ap (λ x. x.0) ran))
 
 -- a text stands for one product line
 pub one_value : (text : List ℕ) (p q : ProductLine) → IsTextOf text p → IsTextOf text q → p ≡ q

@@ -1,18 +1,15 @@
 -- What a call of the lexer says of the text that it reads.
-use Rattle.std.proofs.Common.{◌≡◌, ℕ, Bool, true, false, if◌then◌else◌, codes, List, [], Option, Some, None, Result, Ok, Err, refl, sym, ap, subst, ◌∙◌, encode_utf8_all, true≢false}
+use Rattle.std.proofs.Common.{◌≡◌, ℕ, Bool, true, false, if◌then◌else◌, codes, List, Option, Some, None, Result, Ok, Err, refl, sym, ap, subst, ◌∙◌, encode_utf8_all, true≢false}
 use Rattle.std.specs.Str.{chars, bytes_eq}
 use Rattle.std.proofs.lemmas.Slice.Eq.{bytes_eq-Decides}
 use Rattle.cfj_model.specs.Names.{is_reserved}
-use Rattle.cfj_model.specs.declared.fault.FaultKind.{FaultKind}
-use Rattle.cfj_model.specs.declared.fault.FaultKind.TheVariants as fault
 use Rattle.cfj_model.specs.Faults.{lexical_fault}
 use Rattle.cfj_model.specs.Lexemes.{Lexeme, Word, Mark, Lexed, Found, AtEnd, NoToken, NoClose}
-use Rattle.cfj_model.specs.Tokens.{Token, Id, ClassWord, ExtendsWord, SuperWord, ThisWord, NewWord, ReturnWord, TrueWord, FalseWord, ReservedWord, word_token, token_of, place_of}
-use Rattle.fj_lexer.specs.Kinds.{kind_of, characters_of, word_kind}
-use Rattle.fj_lexer.specs.Lexing.{IsToken, GivesToken, GivesLast, Gives}
+use Rattle.cfj_model.specs.Tokens.{Token, Id, word_token, token_of, place_of}
+use Rattle.fj_lexer.specs.Kinds.{kind_of, characters_of}
+use Rattle.fj_lexer.specs.Lexing.{IsToken, Gives}
 use Rattle.fj_lexer.specs.declared.lexer.Lexer.{Lexer}
 use Rattle.fj_lexer.specs.declared.token.Token as lexer
-use Rattle.fj_lexer.specs.declared.token.TokenKind.{TokenKind}
 use Rattle.fj_lexer.specs.declared.token.TokenKind.TheVariants as kind
 use Rattle.fj_lexer.specs.declared.token.LexFault.{LexFault}
 use Rattle.fj_lexer.specs.declared.token.LexFault.TheVariants.{BadChar, OpenComment}

@@ -9,5 +9,6 @@ pub mod LexedTokens
 pub mod MetNames
 pub mod Progress
 pub mod Sound
+pub mod Spelled
 pub mod Texts
 pub mod TokenReads

@@ -1,6 +1,5 @@
 -- Reading goes on by one token, or ends: with the text's value, or with its first fault.
-use Rattle.std.proofs.Common.{◌≡◌, ℕ, Bool, true, false, List, [], ◌∷◌, ◌++◌, length, Option, Some, None, IfSome, refl, sym, ap, subst, ◌∙◌, inl, inr, ⊎_elim, append_assoc}
-use Rattle.std.specs.Prelude.{◌⊎◌}
+use Rattle.std.proofs.Common.{◌≡◌, ℕ, List, [], ◌∷◌, ◌++◌, length, Option, Some, None, IfSome, refl, sym, ap, subst, ◌∙◌, inl, inr}
 use Rattle.std.proofs.Math.Nat.{sub-zero}
 use Rattle.std.specs.Str.{chars, IsUtf8}
 use Rattle.cfj_model.specs.declared.fault.FaultKind.{FaultKind}
@@ -9,14 +8,15 @@ use Rattle.cfj_model.specs.Faults.{IsTextOf, IsFaultAt, misplaced, breaking, Fro
 use Rattle.cfj_model.specs.Grammar.{spell}
 use Rattle.cfj_model.specs.ProductLines.{ProductLine, IsProject}
 use Rattle.fj_parser.proofs.Kept.{kept}
-use Rattle.cfj_model.specs.Lexemes.{Lexeme, Lexed, Found, AtEnd, next_lexeme}
+use Rattle.cfj_model.specs.Lexemes.{Lexeme, Found, AtEnd, next_lexeme}
 use Rattle.cfj_model.specs.Roles.{Role, Tally, nothing, counted, tallied, broken_by, AreWithin}
 use Rattle.cfj_model.specs.Tokens.{Token, End, Takes, token_of, token_seen, place_of}
 use Rattle.fj_parser.specs.Accepting.{IsAccepted}
-use Rattle.fj_parser.specs.Machine.{State, start, run, step, step_in, role, misplaced_kind, are_read}
-use Rattle.fj_parser.specs.Reading.{IsReading, of_classes}
+use Rattle.fj_parser.specs.Machine.{State, start, run, step, step_in, role, misplaced_kind}
+use Rattle.fj_parser.specs.Reading.{IsReading, of_parts}
+use Rattle.fj_parser.specs.declared.mode.Node.TheVariants as node
 use Rattle.fj_parser.specs.declared.mode.Mode.{Mode}
-use Rattle.fj_parser.specs.declared.mode.Mode.TheVariants.{Start}
+use Rattle.fj_parser.specs.declared.mode.Mode.TheVariants.{Begin, Start, AfterMark}
 use Rattle.fj_parser.specs.Counting.{Counted}
 use Rattle.fj_parser.proofs.Counts.{counted_more}
 use Rattle.fj_parser.proofs.Law.{reads_begin, cannot_go_on, run_more, misplaced_as, WholeText, text_read}
@@ -63,7 +63,7 @@ ends_at_lexeme text rest s t kind from utf8 h e = no_lexeme (front text rest s t
 fault_at : (text rest : List ℕ) (s n : State) (t u : Tally) (token : Token) (kind : FaultKind) → IsUtf8 text → (h : IsReading text rest s t) → IsAccepted s t token n u (Some kind) → IsFaultAt h.tokens h.roles token kind
 fault_at text rest s n t u token kind utf8 h (inl a) =
     let named : IsMisplaced h.tokens token (misplaced_kind s token) =
-        misplaced_as h.tokens token s h.roles h.ran (takes_read (chars text) h.tokens (chars rest) (scalars_of text utf8) h.taken) a.0 in
+    misplaced_as h.tokens token s h.roles h.ran (takes_read (chars text) h.tokens (chars rest) (scalars_of text utf8) h.taken) a.0 in
     misplaced kind (cannot_go_on h.tokens token s h.roles h.ran a.0) (subst (IsMisplaced h.tokens token) (sym a.1) named)
 fault_at text rest s n t u token kind utf8 h (inr a) =
     breaking kind (role s token)
@@ -81,16 +81,24 @@ end_ends text rest s n t u kind utf8 h e a =
 
 -- ---- reading ends with the whole text
 
-end_in : (m : Mode) (s : State) → IfSome (step_in m s End) (λ n. n.classes ≡ s.classes)
-end_in Start s = refl
+end_in : (m : Mode) (s : State) → IfSome (step_in m s End) (λ n. (n.features ≡ s.features) × (n.classes ≡ s.classes))
+end_in Begin s = (refl, refl)
+end_in Start s = (refl, refl)
+end_in (AfterMark node.Class) s = tt
+end_in (AfterMark node.Member) s = tt
+end_in (AfterMark node.Param) s = tt
+end_in (AfterMark node.Send) s = tt
+end_in (AfterMark node.Assign) s = tt
 end_in _ s = tt
 
-end_keeps : (s n : State) → step s End ≡ Some n → n.classes ≡ s.classes
-end_keeps s n goes = let P : Option State → Type 0 = λ o. IfSome o (λ x. x.classes ≡ s.classes) in subst P goes (end_in s.mode s)
+-- the end keeps what was read
+end_keeps : (s n : State) → step s End ≡ Some n → (n.features ≡ s.features) × (n.classes ≡ s.classes)
+end_keeps s n goes = let P : Option State → Type 0 = λ o. IfSome o (λ x. (x.features ≡ s.features) × (x.classes ≡ s.classes)) in subst P goes (end_in s.mode s)
 
-pub ends_whole : (text rest : List ℕ) (s n : State) (t u : Tally) → IsUtf8 text → IsReading text rest s t → next_lexeme (chars rest) ≡ AtEnd → IsAccepted s t End n u None → IsTextOf text (of_classes n.classes)
+pub ends_whole : (text rest : List ℕ) (s n : State) (t u : Tally) → IsUtf8 text → IsReading text rest s t → next_lexeme (chars rest) ≡ AtEnd → IsAccepted s t End n u None → IsTextOf text (of_parts n.features n.classes)
 ends_whole text rest s n t u utf8 h e a =
     let w : WholeText h.tokens s h.roles = text_read h.tokens s n h.roles h.ran a.0 in
+    let k : (n.features ≡ s.features) × (n.classes ≡ s.classes) = end_keeps s n a.0 in
     record {
       utf8 = utf8;
       tree = w.tree;
@@ -98,7 +106,7 @@ ends_whole text rest s n t u utf8 h e a =
       spelled = subst (λ ts. Takes (chars text) ts (chars rest)) w.spelled h.taken;
       ended = e;
       within = subst (AreWithin nothing) w.in_roles h.within;
-      valued = ap of_classes (end_keeps s n a.0 ∙ w.valued);
+      valued = ap (λ x. of_parts x n.classes) (k.0 ∙ w.features) ∙ ap (of_parts w.tree.features) (k.1 ∙ w.valued);
     }
 
 -- a text of the grammar stands for what a project's type keeps

@@ -1,12 +1,12 @@
 -- What the parser's loop learns of a token: what the lexer's call and the token's kind and text say together.
-use Rattle.std.proofs.Common.{◌≡◌, ℕ, true, List, Option, Some, None, Result, Ok, Err, refl, sym, ap, subst, ◌∙◌}
+use Rattle.std.proofs.Common.{◌≡◌, ℕ, true, List, Some, None, Result, Ok, Err, sym, ap, subst, ◌∙◌}
 use Rattle.std.specs.Str.{chars, IsUtf8}
 use Rattle.cfj_model.specs.declared.fault.FaultKind.{FaultKind}
 use Rattle.cfj_model.specs.Faults.{IsFirstFault}
-use Rattle.cfj_model.specs.Lexemes.{Lexeme, Lexed, Found, next_lexeme}
+use Rattle.cfj_model.specs.Lexemes.{Lexeme, Found, next_lexeme}
 use Rattle.cfj_model.specs.Roles.{Tally}
 use Rattle.cfj_model.specs.Tokens.{Token, token_of, token_seen, place_of}
-use Rattle.fj_lexer.specs.Kinds.{kind_of, characters_of}
+use Rattle.fj_lexer.specs.Kinds.{kind_of}
 use Rattle.fj_lexer.specs.Lexing.{Gives}
 use Rattle.fj_lexer.specs.declared.lexer.Lexer.{Lexer}
 use Rattle.fj_lexer.specs.declared.token.Token as lexer
@@ -14,7 +14,7 @@ use Rattle.fj_lexer.specs.declared.token.LexFault.{LexFault}
 use Rattle.fj_parser.specs.Accepting.{IsAccepted}
 use Rattle.fj_parser.specs.Machine.{State, is_read}
 use Rattle.fj_parser.specs.Reading.{IsReading, fault_kind, fault_place, token_read}
-use Rattle.fj_parser.proofs.LexedTokens.{TokenGiven, token_given, FaultGiven, fault_given, read_is}
+use Rattle.fj_parser.proofs.LexedTokens.{token_given, fault_given, read_is}
 use Rattle.fj_parser.proofs.Progress.{reads_more, ends_at_lexeme, ends_at_token}
 use Rattle.fj_parser.proofs.Texts.{next_is_read, takes_scalars, scalars_of}
 

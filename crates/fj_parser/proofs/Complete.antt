@@ -1,14 +1,17 @@
 -- The text of each tree is read: in the tree's roles, and to the tree's value.
-use Rattle.std.proofs.Common.{◌≡◌, ℕ, ◌+◌, true, if◌then◌else◌, List, [], ◌∷◌, ◌++◌, length, map, Some, None, refl, sym, ◌∙◌, ap, append_assoc, length-append}
+use Rattle.std.proofs.Common.{◌≡◌, ℕ, ◌+◌, true, if◌then◌else◌, List, [], ◌∷◌, ◌++◌, length, map, bit_or, Some, None, refl, sym, ◌∙◌, ap, append_assoc, length-append}
 use Rattle.std.proofs.lemmas.List.{append-nil}
 use Rattle.std.proofs.lemmas.Slice.Eq.{bytes_eq-Decides}
 use Rattle.std.specs.Str.{bytes_eq}
 use Rattle.cfj_model.specs.declared.class.Class.{Class}
-use Rattle.cfj_model.specs.Tokens.{Token, SuperWord, OpenBrace, CloseBrace, OpenParen, CloseParen, Semicolon, Comma, End}
-use Rattle.cfj_model.specs.Grammar.{Declared, Named, ClassTree, Tree, in_order, each_behind, separated, spell_field, spell_param, spell_sent, spell_assign, spell_ctor, spell_class, spell, numbered, value_field, value_param, value_sent, value_class}
-use Rattle.cfj_model.specs.Roles.{Role, class_name, assigned_name, used_name, plain, roles_field, roles_param, roles_sent, roles_assign, roles_ctor, roles_class, roles}
-use Rattle.fj_parser.specs.declared.mode.Mode.TheVariants.{InMembers, InParams, AfterParam, AfterParams, InSends, AfterSend, AfterSends, InAssigns, AfterSecondName, AfterCtor, AtEnd}
-use Rattle.fj_parser.specs.Machine.{unnamed, State, behind, start, Run, with_role, then_run, run}
+use Rattle.cfj_model.specs.Tokens.{Token, Id, ClassWord, ExtendsWord, SuperWord, ThisWord, OpenBrace, CloseBrace, OpenParen, CloseParen, Semicolon, Comma, Dot, Equals, At, End}
+use Rattle.cfj_model.specs.Grammar.{Declared, Named, ClassTree, Tree, in_order, each_behind, separated, features_word, spell_name, spell_features, spell_marks, spell_field, spell_param, spell_sent, spell_assign, spell_ctor, spell_class, spell, numbered, color_of, colored, colors_of, value_field, value_param, value_sent, value_class}
+use Rattle.cfj_model.specs.Roles.{Role, mark_name, class_name, assigned_name, used_name, plain, roles_feature, roles_features, roles_mark, roles_marks, roles_field, roles_param, roles_sent, roles_assign, roles_ctor, roles_class, roles}
+use Rattle.fj_parser.specs.declared.mode.Node.{Node}
+use Rattle.fj_parser.specs.declared.mode.Node.TheVariants as node
+use Rattle.fj_parser.specs.declared.mode.Mode.{Mode}
+use Rattle.fj_parser.specs.declared.mode.Mode.TheVariants.{Begin, AfterFeatures, AfterFeature, Start, AfterAt, AfterMark, AfterClass, InMembers, InParams, AfterParamComma, AfterParam, AfterParams, InSends, AfterSendComma, AfterSend, AfterSends, InAssigns, AfterThis, AfterSecondName, AfterCtor, AtEnd}
+use Rattle.fj_parser.specs.Machine.{unnamed, State, behind, start, to, step_in, Run, with_role, then_run, run}
 
 -- a run with more roles before its own
 abbrev pub with_roles : (List Role → List Role) → Run → Run
@@ -23,96 +26,185 @@ numbered_on : {A B : Type 0} (f : ℕ → A → B) (before : List B) (x : A) (xs
 numbered_on f before x xs =
     ap (λ n. (before ++ f (length before) x ∷ []) ++ numbered f n xs) (length-append before (f (length before) x ∷ [])) ∙ append_assoc before (f (length before) x ∷ []) (numbered f (length before + 1) xs)
 
+-- ---- marks
+
+-- behind the marks of any node another may follow
+at_again : (n : Node) (s : State) → step_in (AfterMark n) s At ≡ to (AfterAt n) s
+at_again node.Class s = refl
+at_again node.Member s = refl
+at_again node.Param s = refl
+at_again node.Send s = refl
+at_again node.Assign s = refl
+
+-- the marks after the first
+marks_run : (n : Node) (ms : List (List ℕ)) (ts : List Token) (s : State) → run (spell_marks ms ts) (record s { mode = AfterMark n }) ≡ with_roles (roles_marks ms) (run ts (record s { mode = AfterMark n; colors = colored s.features s.colors ms }))
+unfolding run
+marks_run n [] ts s = refl
+marks_run n (m ∷ ms) ts s =
+    ap (then_run (run (Id m ∷ spell_marks ms ts)) plain) (at_again n (record s { mode = AfterMark n }))
+    ∙ ap (with_roles (roles_mark m)) (marks_run n ms ts (record s { colors = bit_or s.colors (color_of s.features m) }))
+
+-- the marks of a node that has some, behind the sign of the first
+first_mark_run : (n : Node) (m : List ℕ) (ms : List (List ℕ)) (ts : List Token) (s : State) → run (Id m ∷ spell_marks ms ts) (record s { mode = AfterAt n; colors = 0 }) ≡ with_roles (λ rs. mark_name m ∷ roles_marks ms rs) (run ts (record s { mode = AfterMark n; colors = colors_of s.features (m ∷ ms) }))
+unfolding run
+first_mark_run n m ms ts s = ap (with_role (mark_name m)) (marks_run n ms ts (record s { colors = bit_or 0 (color_of s.features m) }))
+
+-- ---- a class's parts
+
 -- the states between the items of each list
 abbrev in_members : State → State
-in_members s = record s { mode = InMembers; of = unnamed; last = unnamed }
+in_members s = record s { mode = InMembers; colors = 0; of = unnamed; last = unnamed }
 
 abbrev pub in_params : State → State
-in_params s = record s { mode = InParams; params = []; of = unnamed }
+in_params s = record s { mode = InParams; params = []; colors = 0; of = unnamed }
+
+abbrev pub after_param_comma : State → State
+after_param_comma s = record s { mode = AfterParamComma; colors = 0; of = unnamed }
 
 abbrev pub after_param : State → State
-after_param s = record s { mode = AfterParam; of = unnamed }
+after_param s = record s { mode = AfterParam; colors = 0; of = unnamed }
 
 abbrev pub after_params : State → State
-after_params s = record s { mode = AfterParams; of = unnamed }
+after_params s = record s { mode = AfterParams; colors = 0; of = unnamed }
 
 abbrev pub in_sends : State → State
-in_sends s = record s { mode = InSends; sends = [] }
+in_sends s = record s { mode = InSends; sends = []; colors = 0 }
+
+abbrev pub after_send_comma : State → State
+after_send_comma s = record s { mode = AfterSendComma; colors = 0 }
 
 abbrev pub after_send : State → State
-after_send s = record s { mode = AfterSend }
+after_send s = record s { mode = AfterSend; colors = 0 }
 
 abbrev pub after_sends : State → State
-after_sends s = record s { mode = AfterSends }
+after_sends s = record s { mode = AfterSends; colors = 0 }
 
 abbrev pub in_assigns : State → State
-in_assigns s = record s { mode = InAssigns; last = unnamed }
+in_assigns s = record s { mode = InAssigns; colors = 0; last = unnamed }
+
+-- one more item in hand
+abbrev pub with_a_field : State → Declared → State
+with_a_field s d = record s { fields = s.fields ++ value_field s.features d ∷ [] }
+
+abbrev pub with_a_param : State → Declared → State
+with_a_param s d = record s { params = s.params ++ value_param s.features (length s.params) d ∷ [] }
+
+abbrev pub with_a_sent : State → Named → State
+with_a_sent s d = record s { sends = s.sends ++ value_sent s.features (length s.sends) d ∷ [] }
+
+abbrev pub with_an_assign : State → Named → State
+with_an_assign s d = record s { assigns = s.assigns ++ value_sent s.features (length s.assigns) d ∷ [] }
+
+-- a field with these marks
+field_run : (ms : List (List ℕ)) (of name : List ℕ) (ts : List Token) (s : State) → run (spell_field (record { marks = ms; of = of; name = name }) ts) (in_members s) ≡ with_roles (roles_field (record { marks = ms; of = of; name = name })) (run ts (in_members (with_a_field s (record { marks = ms; of = of; name = name }))))
+unfolding run
+field_run [] of name ts s = refl
+field_run (m ∷ ms) of name ts s = ap (with_role plain) (first_mark_run node.Member m ms (Id of ∷ (Id name ∷ (Semicolon ∷ ts))) (in_members s))
 
 -- {field}
-fields_run : (ds : List Declared) (ts : List Token) (s : State) → run (in_order spell_field ds ts) (in_members s) ≡ with_roles (in_order roles_field ds) (run ts (in_members (record s { fields = s.fields ++ map value_field ds })))
-unfolding run
+fields_run : (ds : List Declared) (ts : List Token) (s : State) → run (in_order spell_field ds ts) (in_members s) ≡ with_roles (in_order roles_field ds) (run ts (in_members (record s { fields = s.fields ++ map (value_field s.features) ds })))
 fields_run [] ts s = ap (λ fs. run ts (in_members (record s { fields = fs }))) (sym (append-nil s.fields))
 fields_run (d ∷ ds) ts s =
-    ap (with_roles (roles_field d)) (fields_run ds ts (record s { fields = s.fields ++ value_field d ∷ [] }))
-    ∙ ap (λ fs. with_roles (in_order roles_field (d ∷ ds)) (run ts (in_members (record s { fields = fs })))) (append_assoc s.fields (value_field d ∷ []) (map value_field ds))
+    field_run d.marks d.of d.name (in_order spell_field ds ts) s
+    ∙ ap (with_roles (roles_field d)) (fields_run ds ts (with_a_field s d))
+    ∙ ap (λ fs. with_roles (in_order roles_field (d ∷ ds)) (run ts (in_members (record s { fields = fs })))) (append_assoc s.fields (value_field s.features d ∷ []) (map (value_field s.features) ds))
+
+-- a parameter with these marks behind a comma
+param_run : (ms : List (List ℕ)) (of name : List ℕ) (ts : List Token) (s : State) → run (spell_param (record { marks = ms; of = of; name = name }) ts) (after_param_comma s) ≡ with_roles (roles_param (record { marks = ms; of = of; name = name })) (run ts (after_param (with_a_param s (record { marks = ms; of = of; name = name }))))
+unfolding run
+param_run [] of name ts s = refl
+param_run (m ∷ ms) of name ts s = ap (with_role plain) (first_mark_run node.Param m ms (Id of ∷ (Id name ∷ ts)) (after_param_comma s))
+
+-- the first parameter is read as one behind a comma
+first_param_run : (ms : List (List ℕ)) (of name : List ℕ) (ts : List Token) (s : State) → run (spell_param (record { marks = ms; of = of; name = name }) ts) (in_params s) ≡ run (spell_param (record { marks = ms; of = of; name = name }) ts) (after_param_comma (record s { params = [] }))
+unfolding run
+first_param_run [] of name ts s = refl
+first_param_run (m ∷ ms) of name ts s = refl
 
 -- the parameters after the first, and the bracket
-pub more_params_run : (ds : List Declared) (ts : List Token) (s : State) → run (each_behind Comma spell_param ds (CloseParen ∷ ts)) (after_param s) ≡ with_roles (λ rs. each_behind plain roles_param ds (plain ∷ rs)) (run ts (after_params (record s { params = s.params ++ numbered value_param (length s.params) ds })))
+pub more_params_run : (ds : List Declared) (ts : List Token) (s : State) → run (each_behind Comma spell_param ds (CloseParen ∷ ts)) (after_param s) ≡ with_roles (λ rs. each_behind plain roles_param ds (plain ∷ rs)) (run ts (after_params (record s { params = s.params ++ numbered (value_param s.features) (length s.params) ds })))
 unfolding run
 more_params_run [] ts s = ap (λ ps. with_role plain (run ts (after_params (record s { params = ps })))) (sym (append-nil s.params))
 more_params_run (d ∷ ds) ts s =
-    ap (with_roles (λ rs. plain ∷ roles_param d rs)) (more_params_run ds ts (record s { params = s.params ++ value_param (length s.params) d ∷ [] }))
-    ∙ ap (λ ps. with_roles (λ rs. each_behind plain roles_param (d ∷ ds) (plain ∷ rs)) (run ts (after_params (record s { params = ps })))) (numbered_on value_param s.params d ds)
+    ap (with_role plain) (param_run d.marks d.of d.name (each_behind Comma spell_param ds (CloseParen ∷ ts)) s)
+    ∙ ap (with_roles (λ rs. plain ∷ roles_param d rs)) (more_params_run ds ts (with_a_param s d))
+    ∙ ap (λ ps. with_roles (λ rs. each_behind plain roles_param (d ∷ ds) (plain ∷ rs)) (run ts (after_params (record s { params = ps })))) (numbered_on (value_param s.features) s.params d ds)
 
 -- list(param), and the bracket
-params_run : (ds : List Declared) (ts : List Token) (s : State) → run (separated Comma spell_param ds (CloseParen ∷ ts)) (in_params s) ≡ with_roles (λ rs. separated plain roles_param ds (plain ∷ rs)) (run ts (after_params (record s { params = numbered value_param 0 ds })))
+params_run : (ds : List Declared) (ts : List Token) (s : State) → run (separated Comma spell_param ds (CloseParen ∷ ts)) (in_params s) ≡ with_roles (λ rs. separated plain roles_param ds (plain ∷ rs)) (run ts (after_params (record s { params = numbered (value_param s.features) 0 ds })))
 unfolding run
 params_run [] ts s = refl
-params_run (d ∷ ds) ts s = ap (with_roles (roles_param d)) (more_params_run ds ts (record s { params = value_param 0 d ∷ [] }))
+params_run (d ∷ ds) ts s =
+    first_param_run d.marks d.of d.name (each_behind Comma spell_param ds (CloseParen ∷ ts)) s
+    ∙ param_run d.marks d.of d.name (each_behind Comma spell_param ds (CloseParen ∷ ts)) (record s { params = [] })
+    ∙ ap (with_roles (roles_param d)) (more_params_run ds ts (record s { params = value_param s.features 0 d ∷ [] }))
+
+-- a sent name with these marks behind a comma
+sent_run : (ms : List (List ℕ)) (name : List ℕ) (ts : List Token) (s : State) → run (spell_sent (record { marks = ms; name = name }) ts) (after_send_comma s) ≡ with_roles (roles_sent (record { marks = ms; name = name })) (run ts (after_send (with_a_sent s (record { marks = ms; name = name }))))
+unfolding run
+sent_run [] name ts s = refl
+sent_run (m ∷ ms) name ts s = ap (with_role plain) (first_mark_run node.Send m ms (Id name ∷ ts) (after_send_comma s))
+
+-- the first sent name is read as one behind a comma
+first_sent_run : (ms : List (List ℕ)) (name : List ℕ) (ts : List Token) (s : State) → run (spell_sent (record { marks = ms; name = name }) ts) (in_sends s) ≡ run (spell_sent (record { marks = ms; name = name }) ts) (after_send_comma (record s { sends = [] }))
+unfolding run
+first_sent_run [] name ts s = refl
+first_sent_run (m ∷ ms) name ts s = refl
 
 -- the sent names after the first, and the bracket
-pub more_sends_run : (ds : List Named) (ts : List Token) (s : State) → run (each_behind Comma spell_sent ds (CloseParen ∷ ts)) (after_send s) ≡ with_roles (λ rs. each_behind plain roles_sent ds (plain ∷ rs)) (run ts (after_sends (record s { sends = s.sends ++ numbered value_sent (length s.sends) ds })))
+pub more_sends_run : (ds : List Named) (ts : List Token) (s : State) → run (each_behind Comma spell_sent ds (CloseParen ∷ ts)) (after_send s) ≡ with_roles (λ rs. each_behind plain roles_sent ds (plain ∷ rs)) (run ts (after_sends (record s { sends = s.sends ++ numbered (value_sent s.features) (length s.sends) ds })))
 unfolding run
 more_sends_run [] ts s = ap (λ ps. with_role plain (run ts (after_sends (record s { sends = ps })))) (sym (append-nil s.sends))
 more_sends_run (d ∷ ds) ts s =
-    ap (with_roles (λ rs. plain ∷ roles_sent d rs)) (more_sends_run ds ts (record s { sends = s.sends ++ value_sent (length s.sends) d ∷ [] }))
-    ∙ ap (λ ps. with_roles (λ rs. each_behind plain roles_sent (d ∷ ds) (plain ∷ rs)) (run ts (after_sends (record s { sends = ps })))) (numbered_on value_sent s.sends d ds)
+    ap (with_role plain) (sent_run d.marks d.name (each_behind Comma spell_sent ds (CloseParen ∷ ts)) s)
+    ∙ ap (with_roles (λ rs. plain ∷ roles_sent d rs)) (more_sends_run ds ts (with_a_sent s d))
+    ∙ ap (λ ps. with_roles (λ rs. each_behind plain roles_sent (d ∷ ds) (plain ∷ rs)) (run ts (after_sends (record s { sends = ps })))) (numbered_on (value_sent s.features) s.sends d ds)
 
 -- list(sent), and the bracket
-sends_run : (ds : List Named) (ts : List Token) (s : State) → run (separated Comma spell_sent ds (CloseParen ∷ ts)) (in_sends s) ≡ with_roles (λ rs. separated plain roles_sent ds (plain ∷ rs)) (run ts (after_sends (record s { sends = numbered value_sent 0 ds })))
+sends_run : (ds : List Named) (ts : List Token) (s : State) → run (separated Comma spell_sent ds (CloseParen ∷ ts)) (in_sends s) ≡ with_roles (λ rs. separated plain roles_sent ds (plain ∷ rs)) (run ts (after_sends (record s { sends = numbered (value_sent s.features) 0 ds })))
 unfolding run
 sends_run [] ts s = refl
-sends_run (d ∷ ds) ts s = ap (with_roles (roles_sent d)) (more_sends_run ds ts (record s { sends = value_sent 0 d ∷ [] }))
+sends_run (d ∷ ds) ts s =
+    first_sent_run d.marks d.name (each_behind Comma spell_sent ds (CloseParen ∷ ts)) s
+    ∙ sent_run d.marks d.name (each_behind Comma spell_sent ds (CloseParen ∷ ts)) (record s { sends = [] })
+    ∙ ap (with_roles (roles_sent d)) (more_sends_run ds ts (record s { sends = value_sent s.features 0 d ∷ [] }))
 
--- assign
-assign_run : (d : Named) (ts : List Token) (s : State) → run (spell_assign d ts) (in_assigns s) ≡ with_roles (roles_assign d) (run ts (in_assigns (record s { assigns = s.assigns ++ value_sent (length s.assigns) d ∷ [] })))
+-- an assignment's words behind the first, with the colours in hand
+assign_words_run : (w : List ℕ) (ts : List Token) (s : State) → run (Dot ∷ (Id w ∷ (Equals ∷ (Id w ∷ (Semicolon ∷ ts))))) (record s { mode = AfterThis; last = unnamed }) ≡ with_roles (λ rs. plain ∷ (assigned_name w ∷ (plain ∷ (used_name w ∷ (plain ∷ rs))))) (run ts (in_assigns (record s { assigns = s.assigns ++ record { slot = length s.assigns; colors = s.colors; name = w } ∷ [] })))
 unfolding run
-assign_run d ts s =
-    let n : State = record s { mode = AfterSecondName; assigns = s.assigns ++ value_sent (length s.assigns) d ∷ []; last = unnamed } in
-    ap (λ b. with_roles (λ rs. plain ∷ (plain ∷ (assigned_name d.name ∷ (plain ∷ rs)))) (then_run (run (Semicolon ∷ ts)) (used_name d.name) (if b then Some n else None))) (same_name d.name)
+assign_words_run w ts s =
+    let n : State = record s { mode = AfterSecondName; assigns = s.assigns ++ record { slot = length s.assigns; colors = s.colors; name = w } ∷ []; colors = 0; last = unnamed } in
+    ap (λ b. with_roles (λ rs. plain ∷ (assigned_name w ∷ (plain ∷ rs))) (then_run (run (Semicolon ∷ ts)) (used_name w) (if b then Some n else None))) (same_name w)
+
+-- an assignment with these marks
+assign_run : (ms : List (List ℕ)) (w : List ℕ) (ts : List Token) (s : State) → run (spell_assign (record { marks = ms; name = w }) ts) (in_assigns s) ≡ with_roles (roles_assign (record { marks = ms; name = w })) (run ts (in_assigns (with_an_assign s (record { marks = ms; name = w }))))
+unfolding run
+assign_run [] w ts s = ap (with_role plain) (assign_words_run w ts (in_assigns s))
+assign_run (m ∷ ms) w ts s =
+    ap (with_role plain) (first_mark_run node.Assign m ms (ThisWord ∷ (Dot ∷ (Id w ∷ (Equals ∷ (Id w ∷ (Semicolon ∷ ts)))))) (in_assigns s))
+    ∙ ap (with_roles (λ rs. roles_marks (m ∷ ms) (plain ∷ rs))) (assign_words_run w ts (record s { colors = colors_of s.features (m ∷ ms) }))
 
 -- {assign}
-pub assigns_run : (ds : List Named) (ts : List Token) (s : State) → run (in_order spell_assign ds ts) (in_assigns s) ≡ with_roles (in_order roles_assign ds) (run ts (in_assigns (record s { assigns = s.assigns ++ numbered value_sent (length s.assigns) ds })))
-unfolding run
+pub assigns_run : (ds : List Named) (ts : List Token) (s : State) → run (in_order spell_assign ds ts) (in_assigns s) ≡ with_roles (in_order roles_assign ds) (run ts (in_assigns (record s { assigns = s.assigns ++ numbered (value_sent s.features) (length s.assigns) ds })))
 assigns_run [] ts s = ap (λ ps. run ts (in_assigns (record s { assigns = ps }))) (sym (append-nil s.assigns))
 assigns_run (d ∷ ds) ts s =
-    assign_run d (in_order spell_assign ds ts) s
-    ∙ ap (with_roles (roles_assign d)) (assigns_run ds ts (record s { assigns = s.assigns ++ value_sent (length s.assigns) d ∷ [] }))
-    ∙ ap (λ ps. with_roles (in_order roles_assign (d ∷ ds)) (run ts (in_assigns (record s { assigns = ps })))) (numbered_on value_sent s.assigns d ds)
+    assign_run d.marks d.name (in_order spell_assign ds ts) s
+    ∙ ap (with_roles (roles_assign d)) (assigns_run ds ts (with_an_assign s d))
+    ∙ ap (λ ps. with_roles (in_order roles_assign (d ∷ ds)) (run ts (in_assigns (record s { assigns = ps })))) (numbered_on (value_sent s.features) s.assigns d ds)
 
 -- the states of a constructor: before its body, and behind it
 abbrev before_body : ClassTree → State → State
-before_body k s = record s { mode = AfterParams; params = numbered value_param 0 k.params; sends = []; assigns = []; of = unnamed; last = unnamed }
+before_body k s = record s { mode = AfterParams; params = numbered (value_param s.features) 0 k.params; sends = []; assigns = []; colors = 0; of = unnamed; last = unnamed }
 
 abbrev pub behind_ctor : ClassTree → State → State
-behind_ctor k s = record s { mode = AfterCtor; params = numbered value_param 0 k.params; sends = numbered value_sent 0 k.sends; assigns = numbered value_sent 0 k.assigns; of = unnamed; last = unnamed }
+behind_ctor k s = record s { mode = AfterCtor; params = numbered (value_param s.features) 0 k.params; sends = numbered (value_sent s.features) 0 k.sends; assigns = numbered (value_sent s.features) 0 k.assigns; colors = 0; of = unnamed; last = unnamed }
 
 -- the constructor from its body on
 body_run : (k : ClassTree) (ts : List Token) (s : State) → run (OpenBrace ∷ (SuperWord ∷ (OpenParen ∷ separated Comma spell_sent k.sends (CloseParen ∷ (Semicolon ∷ in_order spell_assign k.assigns (CloseBrace ∷ ts)))))) (before_body k s) ≡ with_roles (λ rs. plain ∷ (plain ∷ (plain ∷ separated plain roles_sent k.sends (plain ∷ (plain ∷ in_order roles_assign k.assigns (plain ∷ rs)))))) (run ts (behind_ctor k s))
 unfolding run
 body_run k ts s =
     ap (with_roles (λ rs. plain ∷ (plain ∷ (plain ∷ rs)))) (sends_run k.sends (Semicolon ∷ in_order spell_assign k.assigns (CloseBrace ∷ ts)) (before_body k s))
-    ∙ ap (with_roles (λ rs. plain ∷ (plain ∷ (plain ∷ separated plain roles_sent k.sends (plain ∷ (plain ∷ rs)))))) (assigns_run k.assigns (CloseBrace ∷ ts) (record (before_body k s) { sends = numbered value_sent 0 k.sends }))
+    ∙ ap (with_roles (λ rs. plain ∷ (plain ∷ (plain ∷ separated plain roles_sent k.sends (plain ∷ (plain ∷ rs)))))) (assigns_run k.assigns (CloseBrace ∷ ts) (record (before_body k s) { sends = numbered (value_sent s.features) 0 k.sends }))
 
 -- a class before its fields, with nothing in hand behind them
 abbrev pub named : List ℕ → State → State
@@ -123,38 +215,98 @@ ctor_run : (k : ClassTree) (ts : List Token) (s : State) → run (spell_ctor k t
 unfolding run
 ctor_run k ts s =
     let body : List Token = OpenBrace ∷ (SuperWord ∷ (OpenParen ∷ separated Comma spell_sent k.sends (CloseParen ∷ (Semicolon ∷ in_order spell_assign k.assigns (CloseBrace ∷ ts))))) in
-    let n : State = record s { mode = InParams; name = k.name; params = []; sends = []; assigns = []; of = unnamed; last = unnamed } in
+    let n : State = record s { mode = InParams; name = k.name; params = []; sends = []; assigns = []; colors = 0; of = unnamed; last = unnamed } in
     ap (λ b. with_role (used_name k.name) (then_run (run (separated Comma spell_param k.params (CloseParen ∷ body))) plain (if b then Some n else None))) (same_name k.name)
     ∙ ap (with_roles (λ rs. used_name k.name ∷ (plain ∷ rs))) (params_run k.params body n)
     ∙ ap (with_roles (λ rs. used_name k.name ∷ (plain ∷ separated plain roles_param k.params (plain ∷ rs)))) (body_run k ts (record s { name = k.name }))
 
 -- {field} ctor
-pub members_run : (ds : List Declared) (k : ClassTree) (ts : List Token) (s : State) → run (in_order spell_field ds (spell_ctor k ts)) (named k.name s) ≡ with_roles (λ rs. in_order roles_field ds (roles_ctor k rs)) (run ts (behind_ctor k (record s { name = k.name; fields = s.fields ++ map value_field ds })))
+pub members_run : (ds : List Declared) (k : ClassTree) (ts : List Token) (s : State) → run (in_order spell_field ds (spell_ctor k ts)) (named k.name s) ≡ with_roles (λ rs. in_order roles_field ds (roles_ctor k rs)) (run ts (behind_ctor k (record s { name = k.name; fields = s.fields ++ map (value_field s.features) ds })))
 members_run ds k ts s =
     fields_run ds (spell_ctor k ts) (named k.name s)
-    ∙ ap (with_roles (in_order roles_field ds)) (ctor_run k ts (record s { fields = s.fields ++ map value_field ds }))
+    ∙ ap (with_roles (in_order roles_field ds)) (ctor_run k ts (record s { fields = s.fields ++ map (value_field s.features) ds }))
+
+-- ---- classes
+
+-- a class behind its first word, with its colours in hand
+class_words_run : (k : ClassTree) (colors : ℕ) (ts : List Token) (fs : List (List ℕ)) (cs : List Class) → run (Id k.name ∷ (ExtendsWord ∷ (Id k.parent ∷ (OpenBrace ∷ in_order spell_field k.fields (spell_ctor k (CloseBrace ∷ ts)))))) (record (behind fs cs) { mode = AfterClass; class_colors = colors }) ≡ with_roles (λ rs. class_name k.name ∷ (plain ∷ (used_name k.parent ∷ (plain ∷ in_order roles_field k.fields (roles_ctor k (plain ∷ rs)))))) (run ts (behind fs (cs ++ record (value_class fs k) { colors = colors } ∷ [])))
+unfolding run
+class_words_run k colors ts fs cs =
+    ap (with_roles (λ rs. class_name k.name ∷ (plain ∷ (used_name k.parent ∷ (plain ∷ rs))))) (members_run k.fields k (CloseBrace ∷ ts) (record (behind fs cs) { class_colors = colors; parent = k.parent }))
+
+-- a class's marks and its first word
+class_marks_run : (ms : List (List ℕ)) (ts : List Token) (fs : List (List ℕ)) (cs : List Class) → run (spell_marks ms (ClassWord ∷ ts)) (behind fs cs) ≡ with_roles (λ rs. roles_marks ms (plain ∷ rs)) (run ts (record (behind fs cs) { mode = AfterClass; class_colors = colors_of fs ms }))
+unfolding run
+class_marks_run [] ts fs cs = refl
+class_marks_run (m ∷ ms) ts fs cs = ap (with_role plain) (first_mark_run node.Class m ms (ClassWord ∷ ts) (behind fs cs))
 
 -- class
-class_run : (k : ClassTree) (ts : List Token) (cs : List Class) → run (spell_class k ts) (behind cs) ≡ with_roles (roles_class k) (run ts (behind (cs ++ value_class k ∷ [])))
-unfolding run
-class_run k ts cs =
-    ap (with_roles (λ rs. plain ∷ (class_name k.name ∷ (plain ∷ (used_name k.parent ∷ (plain ∷ rs)))))) (members_run k.fields k (CloseBrace ∷ ts) (record (behind cs) { parent = k.parent }))
+class_run : (k : ClassTree) (ts : List Token) (fs : List (List ℕ)) (cs : List Class) → run (spell_class k ts) (behind fs cs) ≡ with_roles (roles_class k) (run ts (behind fs (cs ++ value_class fs k ∷ [])))
+class_run k ts fs cs =
+    class_marks_run k.marks (Id k.name ∷ (ExtendsWord ∷ (Id k.parent ∷ (OpenBrace ∷ in_order spell_field k.fields (spell_ctor k (CloseBrace ∷ ts)))))) fs cs
+    ∙ ap (with_roles (λ rs. roles_marks k.marks (plain ∷ rs))) (class_words_run k (colors_of fs k.marks) ts fs cs)
 
 -- {class}
-classes_run_on : (tree : Tree) (ts : List Token) (cs : List Class) → run (spell tree ts) (behind cs) ≡ with_roles (roles tree) (run ts (behind (cs ++ map value_class tree)))
-unfolding run
-classes_run_on [] ts cs = ap (λ ks. run ts (behind ks)) (sym (append-nil cs))
-classes_run_on (k ∷ ks) ts cs =
-    class_run k (spell ks ts) cs
-    ∙ ap (with_roles (roles_class k)) (classes_run_on ks ts (cs ++ value_class k ∷ []))
-    ∙ ap (λ all. with_roles (roles (k ∷ ks)) (run ts (behind all))) (append_assoc cs (value_class k ∷ []) (map value_class ks))
+classes_run_on : (ks : List ClassTree) (ts : List Token) (fs : List (List ℕ)) (cs : List Class) → run (in_order spell_class ks ts) (behind fs cs) ≡ with_roles (in_order roles_class ks) (run ts (behind fs (cs ++ map (value_class fs) ks)))
+classes_run_on [] ts fs cs = ap (λ all. run ts (behind fs all)) (sym (append-nil cs))
+classes_run_on (k ∷ ks) ts fs cs =
+    class_run k (in_order spell_class ks ts) fs cs
+    ∙ ap (with_roles (roles_class k)) (classes_run_on ks ts fs (cs ++ value_class fs k ∷ []))
+    ∙ ap (λ all. with_roles (in_order roles_class (k ∷ ks)) (run ts (behind fs all))) (append_assoc cs (value_class fs k ∷ []) (map (value_class fs) ks))
 
--- the whole text of a tree is read, in the tree's roles, to the tree's value
-pub text_runs : (tree : Tree) → run (spell tree (End ∷ [])) start ≡ (Some (record (behind (map value_class tree)) { mode = AtEnd }), roles tree (plain ∷ []))
-unfolding run
-text_runs tree = classes_run_on tree (End ∷ []) []
+-- ---- the feature line
 
--- the same without the end
-pub classes_run : (tree : Tree) → run (spell tree []) start ≡ (Some (behind (map value_class tree)), roles tree [])
+-- the features after the first, and the semicolon
+more_features_run : (fs : List (List ℕ)) (ts : List Token) (s : State) → run (each_behind Comma spell_name fs (Semicolon ∷ ts)) (record s { mode = AfterFeature }) ≡ with_roles (λ rs. each_behind plain roles_feature fs (plain ∷ rs)) (run ts (record s { mode = Start; features = s.features ++ fs }))
 unfolding run
-classes_run tree = classes_run_on tree [] []
+more_features_run [] ts s = ap (λ fs. with_role plain (run ts (record s { mode = Start; features = fs }))) (sym (append-nil s.features))
+more_features_run (f ∷ fs) ts s =
+    ap (with_roles (λ rs. plain ∷ roles_feature f rs)) (more_features_run fs ts (record s { features = s.features ++ f ∷ [] }))
+    ∙ ap (λ all. with_roles (λ rs. each_behind plain roles_feature (f ∷ fs) (plain ∷ rs)) (run ts (record s { mode = Start; features = all }))) (append_assoc s.features (f ∷ []) fs)
+
+-- a line of features
+features_run : (f : List ℕ) (fs : List (List ℕ)) (ts : List Token) → run (spell_features (f ∷ fs) ts) start ≡ with_roles (roles_features (f ∷ fs)) (run ts (behind (f ∷ fs) []))
+unfolding run
+features_run f fs ts =
+    ap (λ b. then_run (run (Id f ∷ each_behind Comma spell_name fs (Semicolon ∷ ts))) (used_name features_word) (if b then to AfterFeatures start else None)) (same_name features_word)
+    ∙ ap (with_roles (λ rs. used_name features_word ∷ roles_feature f rs)) (more_features_run fs ts (behind (f ∷ []) []))
+
+-- ---- a tree
+
+-- With no feature line the first class is read as one behind such a line.
+first_class_run : (ms : List (List ℕ)) (ts : List Token) → run (spell_marks ms (ClassWord ∷ ts)) start ≡ run (spell_marks ms (ClassWord ∷ ts)) (behind [] [])
+unfolding run
+first_class_run [] ts = refl
+first_class_run (m ∷ ms) ts = refl
+
+-- the mode behind the features and the classes
+abbrev pub mode_behind : List (List ℕ) → List ClassTree → Mode
+mode_behind [] [] = Begin
+mode_behind [] (k ∷ ks) = Start
+mode_behind (f ∷ fs) ks = Start
+
+-- a tree, and more
+tree_run : (fs : List (List ℕ)) (ks : List ClassTree) (ts : List Token) → run (spell_features fs (in_order spell_class ks ts)) start ≡ with_roles (λ rs. roles_features fs (in_order roles_class ks rs)) (run ts (record (behind fs (map (value_class fs) ks)) { mode = mode_behind fs ks }))
+tree_run [] [] ts = refl
+tree_run [] (k ∷ ks) ts =
+    first_class_run k.marks (Id k.name ∷ (ExtendsWord ∷ (Id k.parent ∷ (OpenBrace ∷ in_order spell_field k.fields (spell_ctor k (CloseBrace ∷ in_order spell_class ks ts))))))
+    ∙ classes_run_on (k ∷ ks) ts [] []
+tree_run (f ∷ fs) ks ts =
+    features_run f fs (in_order spell_class ks ts)
+    ∙ ap (with_roles (roles_features (f ∷ fs))) (classes_run_on ks ts (f ∷ fs) [])
+
+-- the tokens of a tree are read, in the tree's roles, to the tree's value
+pub classes_run : (tree : Tree) → run (spell tree []) start ≡ (Some (record (behind tree.features (map (value_class tree.features) tree.classes)) { mode = mode_behind tree.features tree.classes }), roles tree [])
+unfolding run
+classes_run tree = tree_run tree.features tree.classes []
+
+-- behind them the text may end
+end_run : (fs : List (List ℕ)) (ks : List ClassTree) → run (End ∷ []) (record (behind fs (map (value_class fs) ks)) { mode = mode_behind fs ks }) ≡ (Some (record (behind fs (map (value_class fs) ks)) { mode = AtEnd }), plain ∷ [])
+unfolding run
+end_run [] [] = refl
+end_run [] (k ∷ ks) = refl
+end_run (f ∷ fs) ks = refl
+
+-- and so is the whole text
+pub text_runs : (tree : Tree) → run (spell tree (End ∷ [])) start ≡ (Some (record (behind tree.features (map (value_class tree.features) tree.classes)) { mode = AtEnd }), roles tree (plain ∷ []))
+text_runs tree = tree_run tree.features tree.classes (End ∷ []) ∙ ap (with_roles (roles tree)) (end_run tree.features tree.classes)

@@ -1,17 +1,20 @@
 -- The laws of the machine: what it has read begins a text; where it is stuck, no text goes on; and how a misplaced token is named.
-use Rattle.std.proofs.Common.{◌≡◌, ℕ, suc, Bool, true, false, ◌&&◌, ◌||◌, if◌then◌else◌, List, [], ◌∷◌, ◌++◌, length, map, codes, Option, Some, None, refl, sym, ◌∙◌, ap, subst, arith}
+use Rattle.std.proofs.Common.{◌≡◌, ℕ, suc, Bool, true, false, ◌&&◌, ◌||◌, if◌then◌else◌, List, [], ◌∷◌, ◌++◌, length, map, bit_or, codes, Option, Some, None, refl, sym, ◌∙◌, ap, subst, arith}
 use Rattle.std.specs.Str.{chars, bytes_eq}
 use Rattle.cfj_model.specs.Names.{is_identifier, is_reserved}
-use Rattle.cfj_model.specs.Tokens.{Token, Id, ClassWord, ExtendsWord, SuperWord, ThisWord, OpenBrace, CloseBrace, OpenParen, CloseParen, Semicolon, Comma, Dot, Equals, End, is_reserved_word}
-use Rattle.cfj_model.specs.Grammar.{Tree, spell, value_class}
+use Rattle.cfj_model.proofs.Identifiers.{features_is_identifier}
+use Rattle.cfj_model.specs.Tokens.{Token, Id, ClassWord, ExtendsWord, SuperWord, ThisWord, OpenBrace, CloseBrace, OpenParen, CloseParen, Semicolon, Comma, Dot, Equals, At, End, is_reserved_word}
+use Rattle.cfj_model.specs.Grammar.{ClassTree, Tree, features_word, spell, color_of, value_class}
 use Rattle.cfj_model.specs.Roles.{Role, used_name, plain, roles}
 use Rattle.cfj_model.specs.declared.fault.FaultKind.TheVariants as fault
 use Rattle.cfj_model.specs.Faults.{Begins, CanGoOn, IsMisplaced, reserved, other, no_name}
+use Rattle.fj_parser.specs.declared.mode.Node.{Node}
+use Rattle.fj_parser.specs.declared.mode.Node.TheVariants as node
 use Rattle.fj_parser.specs.declared.mode.Mode.{Mode}
-use Rattle.fj_parser.specs.declared.mode.Mode.TheVariants.{Start, AfterClass, AfterClassName, AfterExtends, AfterParent, InMembers, AfterType, AfterFieldName, InParams, AfterParamComma, AfterParamType, AfterParam, AfterParams, InBody, AfterSuper, InSends, AfterSendComma, AfterSend, AfterSends, InAssigns, AfterThis, AfterThisDot, AfterAssigned, AfterEquals, AfterSecondName, AfterCtor, AtEnd}
+use Rattle.fj_parser.specs.declared.mode.Mode.TheVariants.{Begin, AfterFeatures, AfterFeature, AfterFeatureComma, Start, AfterAt, AfterMark, AfterMarkedType, AfterClass, AfterClassName, AfterExtends, AfterParent, InMembers, AfterType, AfterFieldName, InParams, AfterParamComma, AfterParamType, AfterParam, AfterParams, InBody, AfterSuper, InSends, AfterSendComma, AfterSend, AfterSends, InAssigns, AfterThis, AfterThisDot, AfterAssigned, AfterEquals, AfterSecondName, AfterCtor, AtEnd}
 use Rattle.fj_parser.specs.Machine.{unnamed, State, behind, start, step_in, step, role, with_field, takes_name, misplaced_kind, Run, with_role, then_run, run, is_read, are_read}
 pub use Rattle.fj_parser.proofs.Complete.{text_runs, classes_run}
-use Rattle.fj_parser.proofs.Complete.{same_name}
+use Rattle.fj_parser.proofs.Complete.{same_name, mode_behind}
 use Rattle.fj_parser.proofs.Sound.{Tail, no_end, an_end, is_whole_in, is_whole, text_of}
 
 -- ---- a run in two parts
@@ -87,9 +90,24 @@ ctor_end w = Id w ∷ (OpenParen ∷ params_end)
 parent_end : List ℕ → List Token
 parent_end w = Id [] ∷ (OpenBrace ∷ ctor_end w)
 
+-- behind the marks of a node, in a class of this name
+marked_end : Node → List ℕ → List Token
+marked_end node.Class w = ClassWord ∷ (Id [] ∷ (ExtendsWord ∷ parent_end []))
+marked_end node.Member w = Id [] ∷ (Id [] ∷ (Semicolon ∷ ctor_end w))
+marked_end node.Param w = Id [] ∷ (Id [] ∷ params_end)
+marked_end node.Send w = Id [] ∷ sends_end
+marked_end node.Assign w = ThisWord ∷ (Dot ∷ (Id [] ∷ (Equals ∷ second_end [])))
+
 -- tokens with which a text can end from a state
 closing : Mode → State → List Token
+closing Begin s = End ∷ []
+closing AfterFeatures s = Id [] ∷ (Semicolon ∷ (End ∷ []))
+closing AfterFeature s = Semicolon ∷ (End ∷ [])
+closing AfterFeatureComma s = Id [] ∷ (Semicolon ∷ (End ∷ []))
 closing Start s = End ∷ []
+closing (AfterAt n) s = Id [] ∷ marked_end n s.name
+closing (AfterMark n) s = marked_end n s.name
+closing AfterMarkedType s = Id [] ∷ (Semicolon ∷ ctor_end s.name)
 closing AfterClass s = Id [] ∷ (ExtendsWord ∷ parent_end [])
 closing AfterClassName s = ExtendsWord ∷ parent_end s.name
 closing AfterExtends s = parent_end s.name
@@ -127,9 +145,21 @@ second_closes : (s : State) → Reaches AtEnd (run (second_end s.last) (record s
 unfolding run second_end assigns_end
 second_closes s = let_through (bytes_eq s.last s.last) (run (Semicolon ∷ assigns_end)) (used_name s.last) (record s { mode = AfterSecondName; last = unnamed }) (same_name s.last) refl
 
+-- behind marks, a state is completed by their node and what follows it
+marked_closes : (n : Node) (s : State) → Reaches AtEnd (run (marked_end n s.name) (record s { mode = AfterMark n })).0
+unfolding run marked_end parent_end ctor_end params_end body_end sends_end second_end assigns_end
+marked_closes node.Class s = refl
+marked_closes node.Member s = ctor_closes (with_field (record s { of = []; last = [] }))
+marked_closes node.Param s = refl
+marked_closes node.Send s = refl
+marked_closes node.Assign s = refl
+
 -- each state is completed by its closing
 closes : (m : Mode) (s : State) → Reaches AtEnd (run (closing m s) (record s { mode = m })).0
 unfolding run closing parent_end ctor_end params_end body_end sends_end second_end assigns_end
+closes (AfterAt n) s = marked_closes n (record s { colors = bit_or s.colors (color_of s.features []) })
+closes (AfterMark n) s = marked_closes n s
+closes AfterMarkedType s = ctor_closes (with_field (record s { last = [] }))
 closes AfterClass s = refl
 closes AfterClassName s = ctor_closes (record s { parent = [] })
 closes AfterExtends s = ctor_closes (record s { parent = [] })
@@ -148,6 +178,12 @@ reach_stops : (m : Mode) (o : Option State) → is_whole_in m ≡ true → Reach
 reach_stops m None e h = absurd h
 reach_stops m (Some n) e h = ap is_whole_in h ∙ e
 
+-- behind the classes the end is still to be read
+not_at_end : {A : Type 0} (fs : List (List ℕ)) (ks : List ClassTree) → mode_behind fs ks ≡ AtEnd → A
+not_at_end [] [] e = absurd (let no : ⊥ = cc e in no)
+not_at_end [] (k ∷ ks) e = absurd (let no : ⊥ = cc e in no)
+not_at_end (f ∷ fs) ks e = absurd (let no : ⊥ = cc e in no)
+
 -- tokens that lead to the end
 closed_text : (ts : List Token) → Reaches AtEnd (run ts start).0 → (tree : Tree) × (ts ≡ spell tree (End ∷ []))
 closed_text ts h = let t = text_of ts (reach_stops AtEnd (run ts start).0 refl h) in go t.tree t.rest t.tail t.spelled
@@ -155,46 +191,71 @@ closed_text ts h = let t = text_of ts (reach_stops AtEnd (run ts start).0 refl h
     go : (tree : Tree) (rest : List Token) → Tail rest → ts ≡ spell tree rest → (tree : Tree) × (ts ≡ spell tree (End ∷ []))
     go tree _ an_end is = (tree, is)
     go tree _ no_end is =
-        let e : Start ≡ AtEnd = subst (λ (p : Run). Reaches AtEnd p.0) (ap (λ w. run w start) is ∙ classes_run tree) h in
-        absurd (let no : ⊥ = cc e in no)
+        let e : mode_behind tree.features tree.classes ≡ AtEnd = subst (λ (p : Run). Reaches AtEnd p.0) (ap (λ w. run w start) is ∙ classes_run tree) h in
+        not_at_end tree.features tree.classes e
 
--- tokens that lead to where a class may follow
-open_text : (ts : List Token) → Reaches Start (run ts start).0 → (tree : Tree) × (ts ≡ spell tree [])
-open_text ts h = let t = text_of ts (reach_stops Start (run ts start).0 refl h) in go t.tree t.rest t.tail t.spelled
+-- a text that is read so far may end in this mode
+abbrev may_end : Mode → Bool
+may_end Begin = true
+may_end Start = true
+may_end _ = false
+
+-- and may stop there
+end_stops : (m : Mode) → may_end m ≡ true → is_whole_in m ≡ true
+end_stops Begin e = refl
+end_stops Start e = refl
+end_stops _ e = absurd (let no : ⊥ = cc e in no)
+
+-- tokens that lead to where the end may follow
+open_text : (ts : List Token) (m : Mode) → may_end m ≡ true → Reaches m (run ts start).0 → (tree : Tree) × (ts ≡ spell tree [])
+open_text ts m e h = let t = text_of ts (reach_stops m (run ts start).0 (end_stops m e) h) in go t.tree t.rest t.tail t.spelled
   where
     go : (tree : Tree) (rest : List Token) → Tail rest → ts ≡ spell tree rest → (tree : Tree) × (ts ≡ spell tree [])
     go tree _ no_end is = (tree, is)
     go tree _ an_end is =
-        let e : AtEnd ≡ Start = subst (λ (p : Run). Reaches Start p.0) (ap (λ w. run w start) is ∙ text_runs tree) h in
-        absurd (let no : ⊥ = cc e in no)
+        let at_end : AtEnd ≡ m = subst (λ (p : Run). Reaches m p.0) (ap (λ w. run w start) is ∙ text_runs tree) h in
+        let no : false ≡ true = ap may_end at_end ∙ e in
+        absurd (let false_is_true : ⊥ = cc no in false_is_true)
 
--- only where a class may follow can the text end
-end_at_start : (m : Mode) (s n : State) → step_in m s End ≡ Some n → m ≡ Start
-end_at_start Start s n h = refl
-end_at_start _ s n h = absurd (let no : ⊥ = cc h in no)
+-- only there does the machine take the end
+end_at_open : (m : Mode) (s n : State) → step_in m s End ≡ Some n → may_end m ≡ true
+end_at_open Begin s n h = refl
+end_at_open Start s n h = refl
+end_at_open (AfterMark node.Class) s n h = absurd (let no : ⊥ = cc h in no)
+end_at_open _ s n h = absurd (let no : ⊥ = cc h in no)
 
 -- what is read to its end is the text of a tree
 pub record WholeText (front : List Token) (s : State) (rs : List Role) : Type 0 where
   pub tree : Tree
   pub spelled : front ≡ spell tree []
   pub in_roles : rs ≡ roles tree []
-  pub valued : s.classes ≡ map value_class tree
+  pub features : s.features ≡ tree.features
+  pub valued : s.classes ≡ map (value_class tree.features) tree.classes
 
 -- states that are equal behind `Some`
 some_same : (s n : State) → Some s ≡ Some n → s ≡ n
 some_same s n e = cc
 
+-- a state to which the tokens of a tree lead holds what the tree stands for
+whole_text : (front : List Token) (s z : State) (rs : List Role) (tree : Tree) → front ≡ spell tree [] → run front start ≡ (Some s, rs) → run front start ≡ (Some z, roles tree []) → z.features ≡ tree.features → z.classes ≡ map (value_class tree.features) tree.classes → WholeText front s rs
+whole_text front s z rs tree is h g features classes =
+    let reached : Some s ≡ Some z = ap (λ (p : Run). p.0) (sym h ∙ g) in
+    let same : s ≡ z = some_same s z reached in
+    record { tree = tree; spelled = is; in_roles = ap (λ (p : Run). p.1) (sym h ∙ g); features = ap (λ (x : State). x.features) same ∙ features; valued = ap (λ (x : State). x.classes) same ∙ classes }
+
 -- where the end may follow, the tokens so far are the text of a tree
 pub text_read : (front : List Token) (s n : State) (rs : List Role) → run front start ≡ (Some s, rs) → step s End ≡ Some n → WholeText front s rs
 text_read front s n rs h ends =
-    let opens : Reaches Start (run front start).0 = subst (λ (p : Run). Reaches Start p.0) (sym h) (end_at_start s.mode s n ends) in
-    let t = open_text front opens in
-    let e : (Some s, rs) ≡ (Some (behind (map value_class t.0)), roles t.0 []) = sym h ∙ ap (λ w. run w start) t.1 ∙ classes_run t.0 in
-    let reached : Some s ≡ Some (behind (map value_class t.0)) = ap (λ (p : Run). p.0) e in
-    let same : s ≡ behind (map value_class t.0) = some_same s (behind (map value_class t.0)) reached in
-    record { tree = t.0; spelled = t.1; in_roles = ap (λ (p : Run). p.1) e; valued = ap (λ (x : State). x.classes) same }
+    let opens : Reaches s.mode (run front start).0 = subst (λ (p : Run). Reaches s.mode p.0) (sym h) refl in
+    let t = open_text front s.mode (end_at_open s.mode s n ends) opens in
+    whole_text front s _ rs t.0 t.1 h (ap (λ w. run w start) t.1 ∙ classes_run t.0) refl refl
 
 -- ---- what is read begins a text
+
+-- tokens with which others run to the end of a text begin that text, in the first of its roles
+begins_of : (front more : List Token) (rs others : List Role) (o : Option State) (tree : Tree) → length rs ≡ length front → front ++ more ≡ spell tree (End ∷ []) → run (front ++ more) start ≡ (o, rs ++ others) → Begins front rs
+begins_of front more rs others o tree each is h =
+    record { tree = tree; more = more; others = others; text = sym is; in_roles = ap (λ (p : Run). p.1) (sym (text_runs tree) ∙ ap (λ w. run w start) (sym is) ∙ h); each = each }
 
 -- what the machine has read begins a text, in the roles that it gave
 pub reads_begin : (front : List Token) (s : State) (rs : List Role) → run front start ≡ (Some s, rs) → Begins front rs
@@ -202,14 +263,8 @@ reads_begin front s rs h =
     let more = closing s.mode s in
     let all : run (front ++ more) start ≡ ((run more s).0, rs ++ (run more s).1) = run_append front more start ∙ ap (on_from more) h in
     let t = closed_text (front ++ more) (subst (λ (p : Run). Reaches AtEnd p.0) (sym all) (closes s.mode s)) in
-    record {
-      tree = t.0;
-      more = more;
-      others = (run more s).1;
-      text = sym t.1;
-      in_roles = ap (λ (p : Run). p.1) (sym (text_runs t.0) ∙ ap (λ w. run w start) (sym t.1) ∙ all);
-      each = ap length (ap (λ (p : Run). p.1) (sym h)) ∙ run_long front start s (ap (λ (p : Run). p.0) h);
-    }
+    let each : length rs ≡ length front = ap (λ (p : Run). length p.1) (sym h) ∙ run_long front start s (ap (λ (p : Run). p.0) h) in
+    begins_of front more rs (run more s).1 (run more s).0 t.0 each t.1 all
 
 -- two lists of roles that begin one list, with the same length
 same_front : (a b x y : List Role) → length a ≡ length b → a ++ x ≡ b ++ y → a ≡ b
@@ -226,9 +281,9 @@ same_front (q ∷ a) (r ∷ b) x y n e =
 pub begins_reads : (front : List Token) (rs : List Role) → Begins front rs → (s : State) × (run front start ≡ (Some s, rs))
 begins_reads front rs b = go (run front start) refl (sym (run_append front b.more start) ∙ ap (λ w. run w start) (sym b.text) ∙ text_runs b.tree)
   where
-    go : (p : Run) → run front start ≡ p → on_from b.more p ≡ (Some (record (behind (map value_class b.tree)) { mode = AtEnd }), roles b.tree (plain ∷ [])) → (s : State) × (run front start ≡ (Some s, rs))
+    go : (p : Run) → run front start ≡ p → on_from b.more p ≡ (Some (record (behind b.tree.features (map (value_class b.tree.features) b.tree.classes)) { mode = AtEnd }), roles b.tree (plain ∷ [])) → (s : State) × (run front start ≡ (Some s, rs))
     go (None, qs) e whole =
-        let o : None ≡ Some (record (behind (map value_class b.tree)) { mode = AtEnd }) = ap (λ (p : Run). p.0) whole in
+        let o : None ≡ Some (record (behind b.tree.features (map (value_class b.tree.features) b.tree.classes)) { mode = AtEnd }) = ap (λ (p : Run). p.0) whole in
         absurd (let no : ⊥ = cc o in no)
     go (Some s, qs) e whole =
         let long : length qs ≡ length front = ap (λ (p : Run). length p.1) (sym e) ∙ run_long front start s (ap (λ (p : Run). p.0) e) in
@@ -245,7 +300,7 @@ cannot_go_on front t s rs h stuck g =
     let e : run ((front ++ t ∷ []) ++ b.more) start ≡ on_from b.more (on_from (t ∷ []) (Some s, rs)) =
     run_append (front ++ t ∷ []) b.more start ∙ ap (on_from b.more) (run_append front (t ∷ []) start ∙ ap (on_from (t ∷ [])) h) in
     let f : on_from b.more (on_from (t ∷ []) (Some s, rs)) ≡ (None, rs ++ []) = ap (λ o. on_from b.more ((then_run (run []) (role s t) o).0, rs ++ (then_run (run []) (role s t) o).1)) stuck in
-    let o : Some (record (behind (map value_class b.tree)) { mode = AtEnd }) ≡ None = ap (λ (p : Run). p.0) (sym (text_runs b.tree) ∙ ap (λ w. run w start) b.text ∙ e ∙ f) in
+    let o : Some (record (behind b.tree.features (map (value_class b.tree.features) b.tree.classes)) { mode = AtEnd }) ≡ None = ap (λ (p : Run). p.0) (sym (text_runs b.tree) ∙ ap (λ w. run w start) b.text ∙ e ∙ f) in
     let no : ⊥ = cc o in no
 
 -- ---- how a misplaced token is named
@@ -282,18 +337,42 @@ kept_if false n k = tt
 
 -- a step keeps it
 kept_step : (m : Mode) (s : State) (t : Token) → Kept m s → is_read t ≡ true → KeptIn (step_in m s t)
+kept_step Begin s (Id w) k r = kept_if (bytes_eq w features_word) (record s { mode = AfterFeatures }) tt
+kept_step Begin s At k r = tt
+kept_step Begin s ClassWord k r = tt
+kept_step Begin s End k r = tt
+kept_step AfterFeatures s (Id w) k r = tt
+kept_step AfterFeature s Comma k r = tt
+kept_step AfterFeature s Semicolon k r = tt
+kept_step AfterFeatureComma s (Id w) k r = tt
+kept_step Start s At k r = tt
 kept_step Start s ClassWord k r = tt
 kept_step Start s End k r = tt
+kept_step (AfterAt n) s (Id w) k r = tt
+kept_step (AfterMark node.Class) s At k r = tt
+kept_step (AfterMark node.Class) s ClassWord k r = tt
+kept_step (AfterMark node.Member) s At k r = tt
+kept_step (AfterMark node.Member) s (Id w) k r = tt
+kept_step (AfterMark node.Param) s At k r = tt
+kept_step (AfterMark node.Param) s (Id w) k r = tt
+kept_step (AfterMark node.Send) s At k r = tt
+kept_step (AfterMark node.Send) s (Id w) k r = tt
+kept_step (AfterMark node.Assign) s At k r = tt
+kept_step (AfterMark node.Assign) s ThisWord k r = tt
 kept_step AfterClass s (Id w) k r = tt
 kept_step AfterClassName s ExtendsWord k r = tt
 kept_step AfterExtends s (Id w) k r = tt
 kept_step AfterParent s OpenBrace k r = tt
+kept_step InMembers s At k r = tt
 kept_step InMembers s (Id w) k r = tt
 kept_step AfterType s (Id w) k r = tt
 kept_step AfterType s OpenParen k r = kept_if (bytes_eq s.of s.name) (record s { mode = InParams; of = unnamed }) tt
+kept_step AfterMarkedType s (Id w) k r = tt
 kept_step AfterFieldName s Semicolon k r = tt
+kept_step InParams s At k r = tt
 kept_step InParams s (Id w) k r = tt
 kept_step InParams s CloseParen k r = tt
+kept_step AfterParamComma s At k r = tt
 kept_step AfterParamComma s (Id w) k r = tt
 kept_step AfterParamType s (Id w) k r = tt
 kept_step AfterParam s Comma k r = tt
@@ -301,12 +380,15 @@ kept_step AfterParam s CloseParen k r = tt
 kept_step AfterParams s OpenBrace k r = tt
 kept_step InBody s SuperWord k r = tt
 kept_step AfterSuper s OpenParen k r = tt
+kept_step InSends s At k r = tt
 kept_step InSends s (Id w) k r = tt
 kept_step InSends s CloseParen k r = tt
+kept_step AfterSendComma s At k r = tt
 kept_step AfterSendComma s (Id w) k r = tt
 kept_step AfterSend s Comma k r = tt
 kept_step AfterSend s CloseParen k r = tt
 kept_step AfterSends s Semicolon k r = tt
+kept_step InAssigns s At k r = tt
 kept_step InAssigns s ThisWord k r = tt
 kept_step InAssigns s CloseBrace k r = tt
 kept_step AfterThis s Dot k r = tt
@@ -347,6 +429,16 @@ by_some m s n e = record { name = some_name; next = n; is = some_name_is; goes =
 
 -- where some identifier could stand, one can
 name_goes : (m : Mode) (s : State) → Kept m s → takes_name m ≡ true → GoesByName m s
+name_goes Begin s k e =
+    let n : State = record s { mode = AfterFeatures } in
+    record { name = features_word; next = n; is = features_is_identifier; goes = ap (λ b. if b then Some n else None) (same_name features_word) }
+name_goes AfterFeatures s k e = by_some AfterFeatures s _ refl
+name_goes AfterFeatureComma s k e = by_some AfterFeatureComma s _ refl
+name_goes (AfterAt n) s k e = by_some (AfterAt n) s _ refl
+name_goes (AfterMark node.Member) s k e = by_some (AfterMark node.Member) s _ refl
+name_goes (AfterMark node.Param) s k e = by_some (AfterMark node.Param) s _ refl
+name_goes (AfterMark node.Send) s k e = by_some (AfterMark node.Send) s _ refl
+name_goes AfterMarkedType s k e = by_some AfterMarkedType s _ refl
 name_goes AfterClass s k e = by_some AfterClass s _ refl
 name_goes AfterExtends s k e = by_some AfterExtends s _ refl
 name_goes InMembers s k e = by_some InMembers s _ refl
@@ -364,6 +456,14 @@ name_goes _ s k e = absurd (let no : ⊥ = cc e in no)
 
 -- elsewhere none can
 name_stops : (m : Mode) (s : State) (w : List ℕ) → takes_name m ≡ false → step_in m s (Id w) ≡ None
+name_stops Begin s w e = absurd (let no : ⊥ = cc e in no)
+name_stops AfterFeatures s w e = absurd (let no : ⊥ = cc e in no)
+name_stops AfterFeatureComma s w e = absurd (let no : ⊥ = cc e in no)
+name_stops (AfterAt n) s w e = absurd (let no : ⊥ = cc e in no)
+name_stops (AfterMark node.Member) s w e = absurd (let no : ⊥ = cc e in no)
+name_stops (AfterMark node.Param) s w e = absurd (let no : ⊥ = cc e in no)
+name_stops (AfterMark node.Send) s w e = absurd (let no : ⊥ = cc e in no)
+name_stops AfterMarkedType s w e = absurd (let no : ⊥ = cc e in no)
 name_stops AfterClass s w e = absurd (let no : ⊥ = cc e in no)
 name_stops AfterExtends s w e = absurd (let no : ⊥ = cc e in no)
 name_stops InMembers s w e = absurd (let no : ⊥ = cc e in no)

@@ -1,18 +1,20 @@
 -- What the machine reads to its end is the text of a tree: one reader for each production, which finds the tree.
-use Rattle.std.proofs.Common.{◌≡◌, ℕ, zero, suc, ◌<◌, Bool, true, false, if◌then◌else◌, List, [], ◌∷◌, ◌++◌, length, map, Option, Some, None, refl, ◌∙◌, ap, subst, arith}
+use Rattle.std.proofs.Common.{◌≡◌, ℕ, zero, suc, ◌<◌, Bool, true, false, if◌then◌else◌, List, [], ◌∷◌, ◌++◌, length, map, bit_or, Option, Some, None, refl, sym, ◌∙◌, ap, subst, arith}
 use Rattle.std.proofs.lemmas.Slice.Eq.{bytes_eq-Decides}
 use Rattle.std.specs.Str.{bytes_eq}
 use Rattle.cfj_model.specs.declared.class.Class.{Class}
-use Rattle.cfj_model.specs.Tokens.{Token, Id, ClassWord, ExtendsWord, SuperWord, ThisWord, OpenBrace, CloseBrace, OpenParen, CloseParen, Semicolon, Comma, Dot, Equals, End}
-use Rattle.cfj_model.specs.Grammar.{Declared, Named, ClassTree, Tree, in_order, each_behind, separated, spell_field, spell_param, spell_sent, spell_assign, spell_ctor, spell_class, spell, value_field, value_param, value_sent, value_class, numbered}
+use Rattle.cfj_model.specs.Tokens.{Token, Id, ClassWord, ExtendsWord, SuperWord, ThisWord, OpenBrace, CloseBrace, OpenParen, CloseParen, Semicolon, Comma, Dot, Equals, At, End}
+use Rattle.cfj_model.specs.Grammar.{Declared, Named, ClassTree, Tree, in_order, each_behind, separated, features_word, spell_name, spell_mark, spell_marks, spell_field, spell_param, spell_sent, spell_assign, spell_ctor, spell_class, spell, color_of, colored, colors_of, value_field, value_param, value_sent, value_class, numbered}
 use Rattle.cfj_model.specs.Roles.{Role, used_name, plain}
+use Rattle.fj_parser.specs.declared.mode.Node.TheVariants as node
 use Rattle.fj_parser.specs.declared.mode.Mode.{Mode}
-use Rattle.fj_parser.specs.declared.mode.Mode.TheVariants.{Start, InParams, AfterParamComma, InSends, AfterSendComma, InAssigns, AfterSecondName, AfterCtor, AtEnd}
+use Rattle.fj_parser.specs.declared.mode.Mode.TheVariants.{Begin, AfterFeatures, AfterFeature, Start, AfterMark, AfterClass, InParams, InSends, InAssigns, AfterThis, AfterSecondName, AfterCtor, AtEnd}
 use Rattle.fj_parser.specs.Machine.{unnamed, State, behind, start, class_of, Run, then_run, run}
-use Rattle.fj_parser.proofs.Complete.{named, in_params, after_param, after_params, in_sends, after_send, after_sends, in_assigns, behind_ctor, more_params_run, more_sends_run, assigns_run, members_run}
+use Rattle.fj_parser.proofs.Complete.{named, in_params, after_param_comma, after_param, after_params, in_sends, after_send_comma, after_send, after_sends, in_assigns, with_a_field, with_a_param, with_a_sent, with_an_assign, behind_ctor, more_params_run, more_sends_run, assigns_run, members_run}
 
 -- a text may stop in this mode
 abbrev pub is_whole_in : Mode → Bool
+is_whole_in Begin = true
 is_whole_in Start = true
 is_whole_in AtEnd = true
 is_whole_in _ = false
@@ -72,22 +74,41 @@ assigns_text ds rest = in_order spell_assign ds (CloseBrace ∷ rest)
 
 -- ---- list(param)
 
--- the state behind one more parameter
-abbrev with_a_param : State → Declared → State
-with_a_param s d = after_param (record s { params = s.params ++ value_param (length s.params) d ∷ [] })
+-- a parameter with the colours in hand
+abbrev colored_param : State → Declared → State
+colored_param s d = after_param (record s { params = s.params ++ record { slot = length s.params; colors = colored s.features s.colors d.marks; of = d.of; name = d.name } ∷ [] })
+
+-- one more mark of a parameter
+mark_param : (m : List ℕ) (ts : List Token) (s : State) → Read Declared spell_param (colored_param (record s { colors = bit_or s.colors (color_of s.features m) })) ts → Read Declared spell_param (colored_param s) (At ∷ (Id m ∷ ts))
+mark_param m ts s r =
+    record {
+      part = record { marks = m ∷ r.part.marks; of = r.part.of; name = r.part.name };
+      rest = r.rest;
+      spelled = ap (spell_mark m) r.spelled;
+      shorter = omega (arith, r.shorter);
+      goes = r.goes;
+    }
+
+-- a parameter behind marks
+marked_param_read : (ts : List Token) (s : State) → Accepts ts (record s { mode = AfterMark node.Param; of = unnamed }) → Read Declared spell_param (colored_param s) ts
+unfolding run
+marked_param_read (At ∷ (Id m ∷ ts)) s h = mark_param m ts s (marked_param_read ts (record s { colors = bit_or s.colors (color_of s.features m) }) h)
+marked_param_read (Id a ∷ (Id b ∷ ts)) s h = record { part = record { marks = []; of = a; name = b }; rest = ts; spelled = refl; shorter = omega arith; goes = h }
+marked_param_read _ s h = never h
 
 -- a parameter, behind a comma or as the first
-param_read : (ts : List Token) (s : State) → Accepts ts (record s { mode = AfterParamComma; of = unnamed }) → Read Declared spell_param (with_a_param s) ts
+param_read : (ts : List Token) (s : State) → Accepts ts (after_param_comma s) → Read Declared spell_param (λ d. after_param (with_a_param s d)) ts
 unfolding run
-param_read (Id a ∷ (Id b ∷ ts)) s h = record { part = record { of = a; name = b }; rest = ts; spelled = refl; shorter = omega arith; goes = h }
+param_read (At ∷ (Id m ∷ ts)) s h = mark_param m ts (record s { colors = 0 }) (marked_param_read ts (record s { colors = bit_or 0 (color_of s.features m) }) h)
+param_read (Id a ∷ (Id b ∷ ts)) s h = record { part = record { marks = []; of = a; name = b }; rest = ts; spelled = refl; shorter = omega arith; goes = h }
 param_read _ s h = never h
 
 -- what the parameters after the first are read as
 abbrev MoreParams : List Token → State → Type 0
-MoreParams ts s = Read (List Declared) more_params_text (λ ds. after_params (record s { params = s.params ++ numbered value_param (length s.params) ds })) ts
+MoreParams ts s = Read (List Declared) more_params_text (λ ds. after_params (record s { params = s.params ++ numbered (value_param s.features) (length s.params) ds })) ts
 
 -- a comma, a parameter and more
-more_params_of : (ts : List Token) (s : State) → Accepts (Comma ∷ ts) (after_param s) → (d : Read Declared spell_param (with_a_param s) ts) → MoreParams d.rest (record s { params = s.params ++ value_param (length s.params) d.part ∷ [] }) → MoreParams (Comma ∷ ts) s
+more_params_of : (ts : List Token) (s : State) → Accepts (Comma ∷ ts) (after_param s) → (d : Read Declared spell_param (λ d. after_param (with_a_param s d)) ts) → MoreParams d.rest (with_a_param s d.part) → MoreParams (Comma ∷ ts) s
 more_params_of ts s h d m =
     let is : Comma ∷ ts ≡ more_params_text (d.part ∷ m.part) m.rest = ap (λ w. Comma ∷ w) (d.spelled ∙ ap (spell_param d.part) m.spelled) in
     record {
@@ -105,15 +126,15 @@ more_params_read zero ts le s h = absurd (omega arith)
 more_params_read (suc k) (CloseParen ∷ ts) le s h = record { part = []; rest = ts; spelled = refl; shorter = omega arith; goes = subst Stops (more_params_run [] ts s) h }
 more_params_read (suc k) (Comma ∷ ts) le s h =
     let d = param_read ts s h in
-    more_params_of ts s h d (more_params_read k d.rest (omega (arith, d.shorter)) (record s { params = s.params ++ value_param (length s.params) d.part ∷ [] }) d.goes)
+    more_params_of ts s h d (more_params_read k d.rest (omega (arith, d.shorter)) (with_a_param s d.part) d.goes)
 more_params_read (suc k) _ le s h = never h
 
 -- what list(param) is read as
 abbrev Params : List Token → State → Type 0
-Params ts s = Read (List Declared) params_text (λ ds. after_params (record s { params = numbered value_param 0 ds })) ts
+Params ts s = Read (List Declared) params_text (λ ds. after_params (record s { params = numbered (value_param s.features) 0 ds })) ts
 
 -- a parameter and more
-params_of : (ts : List Token) (s : State) (d : Read Declared spell_param (with_a_param (record s { params = [] })) ts) → MoreParams d.rest (record s { params = value_param 0 d.part ∷ [] }) → Params ts s
+params_of : (ts : List Token) (s : State) (d : Read Declared spell_param (λ d. after_param (with_a_param (record s { params = [] }) d)) ts) → MoreParams d.rest (record s { params = value_param s.features 0 d.part ∷ [] }) → Params ts s
 params_of ts s d m = record { part = d.part ∷ m.part; rest = m.rest; spelled = d.spelled ∙ ap (spell_param d.part) m.spelled; shorter = omega (arith, d.shorter, m.shorter); goes = m.goes }
 
 -- list(param), and the bracket
@@ -122,27 +143,49 @@ unfolding run
 params_read k (CloseParen ∷ ts) le s h = record { part = []; rest = ts; spelled = refl; shorter = omega arith; goes = h }
 params_read k (Id w ∷ ts) le s h =
     let d = param_read (Id w ∷ ts) (record s { params = [] }) h in
-    params_of (Id w ∷ ts) s d (more_params_read k d.rest (omega (arith, d.shorter)) (record s { params = value_param 0 d.part ∷ [] }) d.goes)
+    params_of (Id w ∷ ts) s d (more_params_read k d.rest (omega (arith, d.shorter)) (record s { params = value_param s.features 0 d.part ∷ [] }) d.goes)
+params_read k (At ∷ ts) le s h =
+    let d = param_read (At ∷ ts) (record s { params = [] }) h in
+    params_of (At ∷ ts) s d (more_params_read k d.rest (omega (arith, d.shorter)) (record s { params = value_param s.features 0 d.part ∷ [] }) d.goes)
 params_read k _ le s h = never h
 
 -- ---- list(sent)
 
--- the state behind one more sent name
-abbrev with_a_sent : State → Named → State
-with_a_sent s d = after_send (record s { sends = s.sends ++ value_sent (length s.sends) d ∷ [] })
+-- a sent name with the colours in hand
+abbrev colored_sent : State → Named → State
+colored_sent s d = after_send (record s { sends = s.sends ++ record { slot = length s.sends; colors = colored s.features s.colors d.marks; name = d.name } ∷ [] })
+
+-- one more mark of a sent name
+mark_sent : (m : List ℕ) (ts : List Token) (s : State) → Read Named spell_sent (colored_sent (record s { colors = bit_or s.colors (color_of s.features m) })) ts → Read Named spell_sent (colored_sent s) (At ∷ (Id m ∷ ts))
+mark_sent m ts s r =
+    record {
+      part = record { marks = m ∷ r.part.marks; name = r.part.name };
+      rest = r.rest;
+      spelled = ap (spell_mark m) r.spelled;
+      shorter = omega (arith, r.shorter);
+      goes = r.goes;
+    }
+
+-- a sent name behind marks
+marked_sent_read : (ts : List Token) (s : State) → Accepts ts (record s { mode = AfterMark node.Send }) → Read Named spell_sent (colored_sent s) ts
+unfolding run
+marked_sent_read (At ∷ (Id m ∷ ts)) s h = mark_sent m ts s (marked_sent_read ts (record s { colors = bit_or s.colors (color_of s.features m) }) h)
+marked_sent_read (Id a ∷ ts) s h = record { part = record { marks = []; name = a }; rest = ts; spelled = refl; shorter = omega arith; goes = h }
+marked_sent_read _ s h = never h
 
 -- a sent name, behind a comma or as the first
-sent_read : (ts : List Token) (s : State) → Accepts ts (record s { mode = AfterSendComma }) → Read Named spell_sent (with_a_sent s) ts
+sent_read : (ts : List Token) (s : State) → Accepts ts (after_send_comma s) → Read Named spell_sent (λ d. after_send (with_a_sent s d)) ts
 unfolding run
-sent_read (Id a ∷ ts) s h = record { part = record { name = a }; rest = ts; spelled = refl; shorter = omega arith; goes = h }
+sent_read (At ∷ (Id m ∷ ts)) s h = mark_sent m ts (record s { colors = 0 }) (marked_sent_read ts (record s { colors = bit_or 0 (color_of s.features m) }) h)
+sent_read (Id a ∷ ts) s h = record { part = record { marks = []; name = a }; rest = ts; spelled = refl; shorter = omega arith; goes = h }
 sent_read _ s h = never h
 
 -- what the sent names after the first are read as
 abbrev MoreSends : List Token → State → Type 0
-MoreSends ts s = Read (List Named) more_sends_text (λ ds. after_sends (record s { sends = s.sends ++ numbered value_sent (length s.sends) ds })) ts
+MoreSends ts s = Read (List Named) more_sends_text (λ ds. after_sends (record s { sends = s.sends ++ numbered (value_sent s.features) (length s.sends) ds })) ts
 
 -- a comma, a sent name and more
-more_sends_of : (ts : List Token) (s : State) → Accepts (Comma ∷ ts) (after_send s) → (d : Read Named spell_sent (with_a_sent s) ts) → MoreSends d.rest (record s { sends = s.sends ++ value_sent (length s.sends) d.part ∷ [] }) → MoreSends (Comma ∷ ts) s
+more_sends_of : (ts : List Token) (s : State) → Accepts (Comma ∷ ts) (after_send s) → (d : Read Named spell_sent (λ d. after_send (with_a_sent s d)) ts) → MoreSends d.rest (with_a_sent s d.part) → MoreSends (Comma ∷ ts) s
 more_sends_of ts s h d m =
     let is : Comma ∷ ts ≡ more_sends_text (d.part ∷ m.part) m.rest = ap (λ w. Comma ∷ w) (d.spelled ∙ ap (spell_sent d.part) m.spelled) in
     record {
@@ -160,15 +203,15 @@ more_sends_read zero ts le s h = absurd (omega arith)
 more_sends_read (suc k) (CloseParen ∷ ts) le s h = record { part = []; rest = ts; spelled = refl; shorter = omega arith; goes = subst Stops (more_sends_run [] ts s) h }
 more_sends_read (suc k) (Comma ∷ ts) le s h =
     let d = sent_read ts s h in
-    more_sends_of ts s h d (more_sends_read k d.rest (omega (arith, d.shorter)) (record s { sends = s.sends ++ value_sent (length s.sends) d.part ∷ [] }) d.goes)
+    more_sends_of ts s h d (more_sends_read k d.rest (omega (arith, d.shorter)) (with_a_sent s d.part) d.goes)
 more_sends_read (suc k) _ le s h = never h
 
 -- what list(sent) is read as
 abbrev Sends : List Token → State → Type 0
-Sends ts s = Read (List Named) sends_text (λ ds. after_sends (record s { sends = numbered value_sent 0 ds })) ts
+Sends ts s = Read (List Named) sends_text (λ ds. after_sends (record s { sends = numbered (value_sent s.features) 0 ds })) ts
 
 -- a sent name and more
-sends_of : (ts : List Token) (s : State) (d : Read Named spell_sent (with_a_sent (record s { sends = [] })) ts) → MoreSends d.rest (record s { sends = value_sent 0 d.part ∷ [] }) → Sends ts s
+sends_of : (ts : List Token) (s : State) (d : Read Named spell_sent (λ d. after_send (with_a_sent (record s { sends = [] }) d)) ts) → MoreSends d.rest (record s { sends = value_sent s.features 0 d.part ∷ [] }) → Sends ts s
 sends_of ts s d m = record { part = d.part ∷ m.part; rest = m.rest; spelled = d.spelled ∙ ap (spell_sent d.part) m.spelled; shorter = omega (arith, d.shorter, m.shorter); goes = m.goes }
 
 -- list(sent), and the bracket
@@ -177,26 +220,29 @@ unfolding run
 sends_read k (CloseParen ∷ ts) le s h = record { part = []; rest = ts; spelled = refl; shorter = omega arith; goes = h }
 sends_read k (Id w ∷ ts) le s h =
     let d = sent_read (Id w ∷ ts) (record s { sends = [] }) h in
-    sends_of (Id w ∷ ts) s d (more_sends_read k d.rest (omega (arith, d.shorter)) (record s { sends = value_sent 0 d.part ∷ [] }) d.goes)
+    sends_of (Id w ∷ ts) s d (more_sends_read k d.rest (omega (arith, d.shorter)) (record s { sends = value_sent s.features 0 d.part ∷ [] }) d.goes)
+sends_read k (At ∷ ts) le s h =
+    let d = sent_read (At ∷ ts) (record s { sends = [] }) h in
+    sends_of (At ∷ ts) s d (more_sends_read k d.rest (omega (arith, d.shorter)) (record s { sends = value_sent s.features 0 d.part ∷ [] }) d.goes)
 sends_read k _ le s h = never h
 
 -- ---- {assign}
 
--- the state behind one more assignment
-abbrev with_an_assign : State → Named → State
-with_an_assign s d = in_assigns (record s { assigns = s.assigns ++ value_sent (length s.assigns) d ∷ [] })
+-- an assignment with the colours in hand
+abbrev colored_assign : State → Named → State
+colored_assign s d = in_assigns (record s { assigns = s.assigns ++ record { slot = length s.assigns; colors = colored s.features s.colors d.marks; name = d.name } ∷ [] })
 
 -- behind the second name of an assignment
-second_read : (ts : List Token) (s : State) → Accepts ts (record s { mode = AfterSecondName; last = unnamed }) → Fixed (λ rest. Semicolon ∷ rest) (in_assigns s) ts
+second_read : (ts : List Token) (s : State) → Accepts ts (record s { mode = AfterSecondName; colors = 0; last = unnamed }) → Fixed (λ rest. Semicolon ∷ rest) (in_assigns s) ts
 unfolding run
 second_read (Semicolon ∷ ts) s h = record { rest = ts; spelled = refl; shorter = omega arith; goes = h }
 second_read _ s h = never h
 
 -- an assignment whose two names are the same
-assign_of : (a b : List ℕ) (ts : List Token) (s : State) → b ≡ a → Fixed (λ rest. Semicolon ∷ rest) (with_an_assign s (record { name = a })) ts → Read Named spell_assign (with_an_assign s) (ThisWord ∷ (Dot ∷ (Id a ∷ (Equals ∷ (Id b ∷ ts)))))
+assign_of : (a b : List ℕ) (ts : List Token) (s : State) → b ≡ a → Fixed (λ rest. Semicolon ∷ rest) (colored_assign s (record { marks = []; name = a })) ts → Read Named spell_assign (colored_assign s) (ThisWord ∷ (Dot ∷ (Id a ∷ (Equals ∷ (Id b ∷ ts)))))
 assign_of a b ts s same r =
     record {
-      part = record { name = a };
+      part = record { marks = []; name = a };
       rest = r.rest;
       spelled = ap (λ w. ThisWord ∷ (Dot ∷ (Id a ∷ (Equals ∷ (Id w ∷ ts))))) same ∙ ap (λ w. ThisWord ∷ (Dot ∷ (Id a ∷ (Equals ∷ (Id a ∷ w))))) r.spelled;
       shorter = omega (arith, r.shorter);
@@ -204,20 +250,44 @@ assign_of a b ts s same r =
     }
 
 -- an assignment behind its first word
-assign_read : (ts : List Token) (s : State) → Accepts (ThisWord ∷ ts) (in_assigns s) → Read Named spell_assign (with_an_assign s) (ThisWord ∷ ts)
+assign_words_read : (ts : List Token) (s : State) → Accepts ts (record s { mode = AfterThis; last = unnamed }) → Read Named spell_assign (colored_assign s) (ThisWord ∷ ts)
 unfolding run
-assign_read (Dot ∷ (Id a ∷ (Equals ∷ (Id b ∷ ts)))) s h =
-    let n : State = record s { assigns = s.assigns ++ value_sent (length s.assigns) (record { name = a }) ∷ [] } in
-    let p = passed (bytes_eq b a) (run ts) (used_name b) (record n { mode = AfterSecondName; last = unnamed }) h in
+assign_words_read (Dot ∷ (Id a ∷ (Equals ∷ (Id b ∷ ts)))) s h =
+    let n : State = record s { assigns = s.assigns ++ record { slot = length s.assigns; colors = s.colors; name = a } ∷ [] } in
+    let p = passed (bytes_eq b a) (run ts) (used_name b) (record n { mode = AfterSecondName; colors = 0; last = unnamed }) h in
     assign_of a b ts s ((bytes_eq-Decides b a).0 p.0) (second_read ts n p.1)
-assign_read _ s h = never h
+assign_words_read _ s h = never h
+
+-- one more mark of an assignment
+mark_assign : (m : List ℕ) (ts : List Token) (s : State) → Read Named spell_assign (colored_assign (record s { colors = bit_or s.colors (color_of s.features m) })) ts → Read Named spell_assign (colored_assign s) (At ∷ (Id m ∷ ts))
+mark_assign m ts s r =
+    record {
+      part = record { marks = m ∷ r.part.marks; name = r.part.name };
+      rest = r.rest;
+      spelled = ap (spell_mark m) r.spelled;
+      shorter = omega (arith, r.shorter);
+      goes = r.goes;
+    }
+
+-- an assignment behind marks
+marked_assign_read : (ts : List Token) (s : State) → Accepts ts (record s { mode = AfterMark node.Assign; last = unnamed }) → Read Named spell_assign (colored_assign s) ts
+unfolding run
+marked_assign_read (At ∷ (Id m ∷ ts)) s h = mark_assign m ts s (marked_assign_read ts (record s { colors = bit_or s.colors (color_of s.features m) }) h)
+marked_assign_read (ThisWord ∷ ts) s h = assign_words_read ts s h
+marked_assign_read _ s h = never h
+
+-- an assignment whose first mark has this sign before it
+mark_assign_read : (ts : List Token) (s : State) → Accepts (At ∷ ts) (in_assigns s) → Read Named spell_assign (λ d. in_assigns (with_an_assign s d)) (At ∷ ts)
+unfolding run
+mark_assign_read (Id m ∷ ts) s h = mark_assign m ts (record s { colors = 0 }) (marked_assign_read ts (record s { colors = bit_or 0 (color_of s.features m) }) h)
+mark_assign_read _ s h = never h
 
 -- what {assign} is read as
 abbrev Assigns : List Token → State → Type 0
-Assigns ts s = Read (List Named) assigns_text (λ ds. record s { mode = AfterCtor; assigns = s.assigns ++ numbered value_sent (length s.assigns) ds; last = unnamed }) ts
+Assigns ts s = Read (List Named) assigns_text (λ ds. record s { mode = AfterCtor; assigns = s.assigns ++ numbered (value_sent s.features) (length s.assigns) ds; colors = 0; last = unnamed }) ts
 
 -- an assignment and more
-assigns_of : (ts : List Token) (s : State) → Accepts ts (in_assigns s) → (d : Read Named spell_assign (with_an_assign s) ts) → Assigns d.rest (record s { assigns = s.assigns ++ value_sent (length s.assigns) d.part ∷ [] }) → Assigns ts s
+assigns_of : (ts : List Token) (s : State) → Accepts ts (in_assigns s) → (d : Read Named spell_assign (λ d. in_assigns (with_an_assign s d)) ts) → Assigns d.rest (with_an_assign s d.part) → Assigns ts s
 unfolding run
 assigns_of ts s h d m =
     let is : ts ≡ assigns_text (d.part ∷ m.part) m.rest = d.spelled ∙ ap (spell_assign d.part) m.spelled in
@@ -234,9 +304,12 @@ assigns_read : (k : ℕ) (ts : List Token) → length ts < k → (s : State) →
 unfolding run
 assigns_read zero ts le s h = absurd (omega arith)
 assigns_read (suc k) (CloseBrace ∷ ts) le s h = record { part = []; rest = ts; spelled = refl; shorter = omega arith; goes = subst Stops (assigns_run [] (CloseBrace ∷ ts) s) h }
+assigns_read (suc k) (At ∷ ts) le s h =
+    let d = mark_assign_read ts s h in
+    assigns_of (At ∷ ts) s h d (assigns_read k d.rest (omega (arith, d.shorter)) (with_an_assign s d.part) d.goes)
 assigns_read (suc k) (ThisWord ∷ ts) le s h =
-    let d = assign_read ts s h in
-    assigns_of (ThisWord ∷ ts) s h d (assigns_read k d.rest (omega (arith, d.shorter)) (record s { assigns = s.assigns ++ value_sent (length s.assigns) d.part ∷ [] }) d.goes)
+    let d = assign_words_read ts (record s { colors = 0 }) h in
+    assigns_of (ThisWord ∷ ts) s h d (assigns_read k d.rest (omega (arith, d.shorter)) (with_an_assign s d.part) d.goes)
 assigns_read (suc k) _ le s h = never h
 
 -- ---- the constructor
@@ -248,12 +321,12 @@ record CtorTree : Type 0 where
   assigns : List Named
 
 -- a class with such a constructor
-abbrev class_with : List ℕ → List ℕ → List Declared → CtorTree → ClassTree
-class_with name parent fields c = record { name = name; parent = parent; fields = fields; params = c.params; sends = c.sends; assigns = c.assigns }
+abbrev class_with : List (List ℕ) → List ℕ → List ℕ → List Declared → CtorTree → ClassTree
+class_with marks name parent fields c = record { marks = marks; name = name; parent = parent; fields = fields; params = c.params; sends = c.sends; assigns = c.assigns }
 
 -- what opens the body, up to the sent names
 abbrev Opening : List Token → State → Type 0
-Opening ts s = Fixed (λ rest. OpenBrace ∷ (SuperWord ∷ (OpenParen ∷ rest))) (record s { mode = InSends; of = unnamed }) ts
+Opening ts s = Fixed (λ rest. OpenBrace ∷ (SuperWord ∷ (OpenParen ∷ rest))) (record s { mode = InSends; colors = 0; of = unnamed }) ts
 
 -- only these may stand behind the parameters
 opening_read : (ts : List Token) (s : State) → Accepts ts (after_params s) → Opening ts s
@@ -263,7 +336,7 @@ opening_read _ s h = never h
 
 -- the semicolon behind the sent names
 abbrev Semi : List Token → State → Type 0
-Semi ts s = Fixed (λ rest. Semicolon ∷ rest) (record s { mode = InAssigns }) ts
+Semi ts s = Fixed (λ rest. Semicolon ∷ rest) (record s { mode = InAssigns; colors = 0 }) ts
 
 -- only the semicolon may stand there
 semi_read : (ts : List Token) (s : State) → Accepts ts (after_sends s) → Semi ts s
@@ -286,10 +359,10 @@ ctor_rest c rest =
 
 -- the state behind such a constructor
 abbrev behind_this : State → CtorTree → State
-behind_this s c = behind_ctor (class_with [] [] [] c) s
+behind_this s c = behind_ctor (class_with [] [] [] [] c) s
 
 -- a constructor of its parts
-ctor_of : (ts : List Token) (s : State) (p : Params ts s) (o : Opening p.rest (record s { params = numbered value_param 0 p.part })) (t : Sends o.rest (record s { params = numbered value_param 0 p.part; of = unnamed })) (m : Semi t.rest (record s { params = numbered value_param 0 p.part; sends = numbered value_sent 0 t.part; of = unnamed })) → Assigns m.rest (record s { params = numbered value_param 0 p.part; sends = numbered value_sent 0 t.part; assigns = []; of = unnamed }) → Read CtorTree ctor_rest (behind_this s) ts
+ctor_of : (ts : List Token) (s : State) (p : Params ts s) (o : Opening p.rest (record s { params = numbered (value_param s.features) 0 p.part })) (t : Sends o.rest (record s { params = numbered (value_param s.features) 0 p.part; colors = 0; of = unnamed })) (m : Semi t.rest (record s { params = numbered (value_param s.features) 0 p.part; sends = numbered (value_sent s.features) 0 t.part; colors = 0; of = unnamed })) → Assigns m.rest (record s { params = numbered (value_param s.features) 0 p.part; sends = numbered (value_sent s.features) 0 t.part; assigns = []; colors = 0; of = unnamed }) → Read CtorTree ctor_rest (behind_this s) ts
 ctor_of ts s p o t m a =
     record {
       part = record { params = p.part; sends = t.part; assigns = a.part };
@@ -300,21 +373,39 @@ ctor_of ts s p o t m a =
     }
 
 -- a constructor behind its name and the bracket
-ctor_read : (k : ℕ) (ts : List Token) → length ts < k → (s : State) → Accepts ts (record s { mode = InParams; params = []; sends = []; assigns = []; of = unnamed; last = unnamed }) → Read CtorTree ctor_rest (behind_this s) ts
+ctor_read : (k : ℕ) (ts : List Token) → length ts < k → (s : State) → Accepts ts (record s { mode = InParams; params = []; sends = []; assigns = []; colors = 0; of = unnamed; last = unnamed }) → Read CtorTree ctor_rest (behind_this s) ts
 ctor_read k ts le s h =
-    let n : State = record s { params = []; sends = []; assigns = []; of = unnamed; last = unnamed } in
+    let n : State = record s { params = []; sends = []; assigns = []; colors = 0; of = unnamed; last = unnamed } in
     let p = params_read k ts le n h in
-    let in_body : State = record n { params = numbered value_param 0 p.part } in
+    let in_body : State = record n { params = numbered (value_param s.features) 0 p.part } in
     let o = opening_read p.rest in_body p.goes in
     let t = sends_read k o.rest (omega (arith, p.shorter, o.shorter)) in_body o.goes in
-    let m = semi_read t.rest (record in_body { sends = numbered value_sent 0 t.part }) t.goes in
-    ctor_of ts n p o t m (assigns_read k m.rest (omega (arith, p.shorter, o.shorter, t.shorter, m.shorter)) (record in_body { sends = numbered value_sent 0 t.part }) m.goes)
+    let m = semi_read t.rest (record in_body { sends = numbered (value_sent s.features) 0 t.part }) t.goes in
+    ctor_of ts n p o t m (assigns_read k m.rest (omega (arith, p.shorter, o.shorter, t.shorter, m.shorter)) (record in_body { sends = numbered (value_sent s.features) 0 t.part }) m.goes)
 
 -- ---- {field} ctor
 
--- a class with this name before its constructor, with a field more
-abbrev with_a_field : State → Declared → State
-with_a_field s d = record s { fields = s.fields ++ value_field d ∷ [] }
+-- a field with the colours in hand, in a class of this name
+abbrev colored_field : List ℕ → State → Declared → State
+colored_field w s d = named w (record s { fields = s.fields ++ record { alt = 0; colors = colored s.features s.colors d.marks; of = d.of; name = d.name } ∷ [] })
+
+-- one more mark of a field
+mark_field : (m : List ℕ) (ts : List Token) (w : List ℕ) (s : State) → Read Declared spell_field (colored_field w (record s { colors = bit_or s.colors (color_of s.features m) })) ts → Read Declared spell_field (colored_field w s) (At ∷ (Id m ∷ ts))
+mark_field m ts w s r =
+    record {
+      part = record { marks = m ∷ r.part.marks; of = r.part.of; name = r.part.name };
+      rest = r.rest;
+      spelled = ap (spell_mark m) r.spelled;
+      shorter = omega (arith, r.shorter);
+      goes = r.goes;
+    }
+
+-- a field behind marks
+marked_field_read : (ts : List Token) (w : List ℕ) (s : State) → Accepts ts (record (named w s) { mode = AfterMark node.Member; colors = s.colors }) → Read Declared spell_field (colored_field w s) ts
+unfolding run
+marked_field_read (At ∷ (Id m ∷ ts)) w s h = mark_field m ts w s (marked_field_read ts w (record s { colors = bit_or s.colors (color_of s.features m) }) h)
+marked_field_read (Id a ∷ (Id b ∷ (Semicolon ∷ ts))) w s h = record { part = record { marks = []; of = a; name = b }; rest = ts; spelled = refl; shorter = omega arith; goes = h }
+marked_field_read _ w s h = never h
 
 -- What stands in a class: a field, or the constructor with the class's name.
 data Member (ts : List Token) (w : List ℕ) (s : State) : Type 0 where
@@ -324,7 +415,8 @@ data Member (ts : List Token) (w : List ℕ) (s : State) : Type 0 where
 -- what stands next in a class
 member_read : (ts : List Token) (w : List ℕ) (s : State) → Accepts ts (named w s) → Member ts w s
 unfolding run
-member_read (Id a ∷ (Id b ∷ (Semicolon ∷ ts))) w s h = field (record { part = record { of = a; name = b }; rest = ts; spelled = refl; shorter = omega arith; goes = h })
+member_read (At ∷ (Id m ∷ ts)) w s h = field (mark_field m ts w (record s { colors = 0 }) (marked_field_read ts w (record s { colors = bit_or 0 (color_of s.features m) }) h))
+member_read (Id a ∷ (Id b ∷ (Semicolon ∷ ts))) w s h = field (record { part = record { marks = []; of = a; name = b }; rest = ts; spelled = refl; shorter = omega arith; goes = h })
 member_read (Id a ∷ (OpenParen ∷ ts)) w s h =
     let p = passed (bytes_eq a w) (run ts) plain (record (named w s) { mode = InParams }) h in
     let same : a ≡ w = (bytes_eq-Decides a w).0 p.0 in
@@ -338,11 +430,11 @@ record Members : Type 0 where
 
 -- their text, in a class of this name
 abbrev members_text : List ℕ → Members → List Token → List Token
-members_text w m rest = in_order spell_field m.fields (spell_ctor (class_with w [] [] m.ctor) rest)
+members_text w m rest = in_order spell_field m.fields (spell_ctor (class_with [] w [] [] m.ctor) rest)
 
 -- the state behind them
 abbrev behind_members : List ℕ → State → Members → State
-behind_members w s m = behind_ctor (class_with w [] [] m.ctor) (record s { name = w; fields = s.fields ++ map value_field m.fields })
+behind_members w s m = behind_ctor (class_with [] w [] [] m.ctor) (record s { name = w; fields = s.fields ++ map (value_field s.features) m.fields })
 
 -- what they are read as
 abbrev ReadMembers : List Token → List ℕ → State → Type 0
@@ -358,7 +450,7 @@ field_and ts w s h d m =
       rest = m.rest;
       spelled = is;
       shorter = omega (arith, d.shorter, m.shorter);
-      goes = subst Stops (ap (λ x. run x (named w s)) is ∙ members_run part.fields (class_with w [] [] part.ctor) m.rest s) h;
+      goes = subst Stops (ap (λ x. run x (named w s)) is ∙ members_run part.fields (class_with [] w [] [] part.ctor) m.rest s) h;
     }
 
 -- the constructor and no field
@@ -371,7 +463,7 @@ ctor_alone ts w s h d c =
       rest = c.rest;
       spelled = is;
       shorter = omega (arith, d.shorter, c.shorter);
-      goes = subst Stops (ap (λ x. run x (named w s)) is ∙ members_run [] (class_with w [] [] part.ctor) c.rest s) h;
+      goes = subst Stops (ap (λ x. run x (named w s)) is ∙ members_run [] (class_with [] w [] [] part.ctor) c.rest s) h;
     }
 
 -- {field} ctor
@@ -386,34 +478,82 @@ members_read (suc k) ts le w s h = go (λ rest shorter n goes. members_read k re
 -- ---- class
 
 -- the brace behind the constructor
-closed_read : (ts : List Token) (s : State) → Accepts ts (record s { mode = AfterCtor }) → Fixed (λ rest. CloseBrace ∷ rest) (behind (s.classes ++ class_of s ∷ [])) ts
+closed_read : (ts : List Token) (s : State) → Accepts ts (record s { mode = AfterCtor }) → Fixed (λ rest. CloseBrace ∷ rest) (behind s.features (s.classes ++ class_of s ∷ [])) ts
 unfolding run
 closed_read (CloseBrace ∷ ts) s h = record { rest = ts; spelled = refl; shorter = omega arith; goes = h }
 closed_read _ s h = never h
 
--- what a class is read as
-abbrev ReadClass : List Token → List Class → Type 0
-ReadClass ts cs = Read ClassTree spell_class (λ c. behind (cs ++ value_class c ∷ [])) ts
+-- the text of a class behind its first word
+abbrev class_words : ClassTree → List Token → List Token
+class_words c rest = Id c.name ∷ (ExtendsWord ∷ (Id c.parent ∷ (OpenBrace ∷ in_order spell_field c.fields (spell_ctor c (CloseBrace ∷ rest)))))
+
+-- what it is read as, with these colours in hand
+abbrev ReadWords : List Token → ℕ → List (List ℕ) → List Class → Type 0
+ReadWords ts colors fs cs = Read ClassTree class_words (λ c. behind fs (cs ++ record (value_class fs c) { colors = colors } ∷ [])) ts
 
 -- a class of its parts
-class_parts : (w p : List ℕ) (ts : List Token) (cs : List Class) (m : ReadMembers ts w (record (behind cs) { parent = p })) → Fixed (λ rest. CloseBrace ∷ rest) (behind (cs ++ value_class (class_with w p m.part.fields m.part.ctor) ∷ [])) m.rest → ReadClass (ClassWord ∷ (Id w ∷ (ExtendsWord ∷ (Id p ∷ (OpenBrace ∷ ts))))) cs
-class_parts w p ts cs m e =
+class_parts : (w p : List ℕ) (ts : List Token) (colors : ℕ) (fs : List (List ℕ)) (cs : List Class) (m : ReadMembers ts w (record (behind fs cs) { class_colors = colors; parent = p })) → Fixed (λ rest. CloseBrace ∷ rest) (behind fs (cs ++ record (value_class fs (class_with [] w p m.part.fields m.part.ctor)) { colors = colors } ∷ [])) m.rest → ReadWords (Id w ∷ (ExtendsWord ∷ (Id p ∷ (OpenBrace ∷ ts)))) colors fs cs
+class_parts w p ts colors fs cs m e =
     record {
-      part = class_with w p m.part.fields m.part.ctor;
+      part = class_with [] w p m.part.fields m.part.ctor;
       rest = e.rest;
-      spelled = ap (λ x. ClassWord ∷ (Id w ∷ (ExtendsWord ∷ (Id p ∷ (OpenBrace ∷ x))))) (m.spelled ∙ ap (members_text w m.part) e.spelled);
+      spelled = ap (λ x. Id w ∷ (ExtendsWord ∷ (Id p ∷ (OpenBrace ∷ x)))) (m.spelled ∙ ap (members_text w m.part) e.spelled);
       shorter = omega (arith, m.shorter, e.shorter);
       goes = e.goes;
     }
 
 -- a class behind its first word
-class_read : (k : ℕ) (ts : List Token) → length ts < k → (cs : List Class) → Accepts (ClassWord ∷ ts) (behind cs) → ReadClass (ClassWord ∷ ts) cs
+class_words_read : (k : ℕ) (ts : List Token) → length ts < k → (colors : ℕ) (fs : List (List ℕ)) (cs : List Class) → Accepts ts (record (behind fs cs) { mode = AfterClass; class_colors = colors }) → ReadWords ts colors fs cs
 unfolding run
-class_read k (Id w ∷ (ExtendsWord ∷ (Id p ∷ (OpenBrace ∷ ts)))) le cs h =
-    let n : State = record (behind cs) { parent = p } in
+class_words_read k (Id w ∷ (ExtendsWord ∷ (Id p ∷ (OpenBrace ∷ ts)))) le colors fs cs h =
+    let n : State = record (behind fs cs) { class_colors = colors; parent = p } in
     let m = members_read k ts (omega arith) w n h in
-    class_parts w p ts cs m (closed_read m.rest (behind_members w n m.part) m.goes)
-class_read k _ le cs h = never h
+    class_parts w p ts colors fs cs m (closed_read m.rest (behind_members w n m.part) m.goes)
+class_words_read k _ le colors fs cs h = never h
+
+-- the text of a class's marks and its first word
+abbrev marks_text : List (List ℕ) → List Token → List Token
+marks_text ms rest = spell_marks ms (ClassWord ∷ rest)
+
+-- what it is read as, behind these colours
+abbrev ReadMarks : List Token → ℕ → List (List ℕ) → List Class → Type 0
+ReadMarks ts colors fs cs = Read (List (List ℕ)) marks_text (λ ms. record (behind fs cs) { mode = AfterClass; class_colors = colored fs colors ms }) ts
+
+-- one more mark of a class
+mark_class : (m : List ℕ) (ts : List Token) (colors : ℕ) (fs : List (List ℕ)) (cs : List Class) → ReadMarks ts (bit_or colors (color_of fs m)) fs cs → ReadMarks (At ∷ (Id m ∷ ts)) colors fs cs
+mark_class m ts colors fs cs r = record { part = m ∷ r.part; rest = r.rest; spelled = ap (spell_mark m) r.spelled; shorter = omega (arith, r.shorter); goes = r.goes }
+
+-- a class's marks behind others
+marked_class_read : (ts : List Token) (colors : ℕ) (fs : List (List ℕ)) (cs : List Class) → Accepts ts (record (behind fs cs) { mode = AfterMark node.Class; colors = colors }) → ReadMarks ts colors fs cs
+unfolding run
+marked_class_read (At ∷ (Id m ∷ ts)) colors fs cs h = mark_class m ts colors fs cs (marked_class_read ts (bit_or colors (color_of fs m)) fs cs h)
+marked_class_read (ClassWord ∷ ts) colors fs cs h = record { part = []; rest = ts; spelled = refl; shorter = omega arith; goes = h }
+marked_class_read _ colors fs cs h = never h
+
+-- a class's marks behind their first sign
+class_marks_read : (ts : List Token) (fs : List (List ℕ)) (cs : List Class) → Accepts (At ∷ ts) (behind fs cs) → ReadMarks (At ∷ ts) 0 fs cs
+unfolding run
+class_marks_read (Id m ∷ ts) fs cs h = mark_class m ts 0 fs cs (marked_class_read ts (bit_or 0 (color_of fs m)) fs cs h)
+class_marks_read _ fs cs h = never h
+
+-- what a class is read as
+abbrev ReadClass : List Token → List (List ℕ) → List Class → Type 0
+ReadClass ts fs cs = Read ClassTree spell_class (λ c. behind fs (cs ++ value_class fs c ∷ [])) ts
+
+-- a class of its marks and its words
+marked_class : (ts : List Token) (fs : List (List ℕ)) (cs : List Class) (m : ReadMarks ts 0 fs cs) → ReadWords m.rest (colors_of fs m.part) fs cs → ReadClass ts fs cs
+marked_class ts fs cs m c =
+    record {
+      part = record c.part { marks = m.part };
+      rest = c.rest;
+      spelled = m.spelled ∙ ap (marks_text m.part) c.spelled;
+      shorter = omega (arith, m.shorter, c.shorter);
+      goes = c.goes;
+    }
+
+-- class
+class_read : (k : ℕ) (ts : List Token) → length ts < k → (fs : List (List ℕ)) (cs : List Class) → ReadMarks ts 0 fs cs → ReadClass ts fs cs
+class_read k ts le fs cs m = marked_class ts fs cs m (class_words_read k m.rest (omega (arith, m.shorter)) (colors_of fs m.part) fs cs m.goes)
 
 -- ---- {class}
 
@@ -422,27 +562,91 @@ pub data Tail : List Token → Type 0 where
   no_end : Tail []
   an_end : Tail (End ∷ [])
 
+record Classes (ts : List Token) : Type 0 where
+  classes : List ClassTree
+  rest : List Token
+  spelled : ts ≡ in_order spell_class classes rest
+  tail : Tail rest
+
+-- a class and more
+class_and : (ts : List Token) (fs : List (List ℕ)) (cs : List Class) (c : ReadClass ts fs cs) → Classes c.rest → Classes ts
+class_and ts fs cs c t = record { classes = c.part ∷ t.classes; rest = t.rest; spelled = c.spelled ∙ ap (spell_class c.part) t.spelled; tail = t.tail }
+
+-- {class}, and the end or none
+classes_read : (k : ℕ) (ts : List Token) → length ts < k → (fs : List (List ℕ)) (cs : List Class) → Accepts ts (behind fs cs) → Classes ts
+unfolding run
+classes_read zero ts le fs cs h = absurd (omega arith)
+classes_read (suc k) [] le fs cs h = record { classes = []; rest = []; spelled = refl; tail = no_end }
+classes_read (suc k) (End ∷ []) le fs cs h = record { classes = []; rest = End ∷ []; spelled = refl; tail = an_end }
+classes_read (suc k) (At ∷ ts) le fs cs h =
+    let c = class_read (suc k) (At ∷ ts) le fs cs (class_marks_read ts fs cs h) in
+    class_and (At ∷ ts) fs cs c (classes_read k c.rest (omega (arith, c.shorter)) fs (cs ++ value_class fs c.part ∷ []) c.goes)
+classes_read (suc k) (ClassWord ∷ ts) le fs cs h =
+    let c = class_read (suc k) (ClassWord ∷ ts) le fs cs (record { part = []; rest = ts; spelled = refl; shorter = omega arith; goes = h }) in
+    class_and (ClassWord ∷ ts) fs cs c (classes_read k c.rest (omega (arith, c.shorter)) fs (cs ++ value_class fs c.part ∷ []) c.goes)
+classes_read (suc k) _ le fs cs h = never h
+
+-- ---- the feature line
+
+-- The rest of a feature line, behind its first feature; all its features are then read.
+record Line (ts : List Token) : Type 0 where
+  names : List (List ℕ)
+  all : List (List ℕ)
+  rest : List Token
+  spelled : ts ≡ each_behind Comma spell_name names (Semicolon ∷ rest)
+  shorter : length rest < length ts
+  goes : Accepts rest (behind all [])
+
+-- a comma, a feature and more
+feature_and : (f : List ℕ) (ts : List Token) → Line ts → Line (Comma ∷ (Id f ∷ ts))
+feature_and f ts l = record { names = f ∷ l.names; all = l.all; rest = l.rest; spelled = ap (λ w. Comma ∷ (Id f ∷ w)) l.spelled; shorter = omega (arith, l.shorter); goes = l.goes }
+
+-- the features after the first, and the semicolon
+names_read : (ts : List Token) (fs : List (List ℕ)) → Accepts ts (record (behind fs []) { mode = AfterFeature }) → Line ts
+unfolding run
+names_read (Comma ∷ (Id f ∷ ts)) fs h = feature_and f ts (names_read ts (fs ++ f ∷ []) h)
+names_read (Semicolon ∷ ts) fs h = record { names = []; all = fs; rest = ts; spelled = refl; shorter = omega arith; goes = h }
+names_read _ fs h = never h
+
+-- ---- a text
+
 pub record Text (ts : List Token) : Type 0 where
   pub tree : Tree
   pub rest : List Token
   pub spelled : ts ≡ spell tree rest
   pub tail : Tail rest
 
--- a class and more
-text_behind : (ts : List Token) (cs : List Class) (c : ReadClass ts cs) → Text c.rest → Text ts
-text_behind ts cs c t = record { tree = c.part ∷ t.tree; rest = t.rest; spelled = c.spelled ∙ ap (spell_class c.part) t.spelled; tail = t.tail }
+-- classes with no feature line before them
+without_line : (ts : List Token) → Classes ts → Text ts
+without_line ts t = record { tree = record { features = []; classes = t.classes }; rest = t.rest; spelled = t.spelled; tail = t.tail }
 
--- {class}, and the end or none
-classes_read : (k : ℕ) (ts : List Token) → length ts < k → (cs : List Class) → Accepts ts (behind cs) → Text ts
+-- classes behind a feature line
+with_line : (f : List ℕ) (ts : List Token) (l : Line ts) → Classes l.rest → Text (Id features_word ∷ (Id f ∷ ts))
+with_line f ts l t =
+    record {
+      tree = record { features = f ∷ l.names; classes = t.classes };
+      rest = t.rest;
+      spelled = ap (λ w. Id features_word ∷ (Id f ∷ w)) (l.spelled ∙ ap (λ w. each_behind Comma spell_name l.names (Semicolon ∷ w)) t.spelled);
+      tail = t.tail;
+    }
+
+-- a text behind the word that begins a feature line
+line_read : (ts : List Token) → Accepts ts (record start { mode = AfterFeatures }) → Text (Id features_word ∷ ts)
 unfolding run
-classes_read zero ts le cs h = absurd (omega arith)
-classes_read (suc k) [] le cs h = record { tree = []; rest = []; spelled = refl; tail = no_end }
-classes_read (suc k) (End ∷ []) le cs h = record { tree = []; rest = End ∷ []; spelled = refl; tail = an_end }
-classes_read (suc k) (ClassWord ∷ ts) le cs h =
-    let c = class_read k ts (omega arith) cs h in
-    text_behind (ClassWord ∷ ts) cs c (classes_read k c.rest (omega (arith, c.shorter)) (cs ++ value_class c.part ∷ []) c.goes)
-classes_read (suc k) _ le cs h = never h
+line_read (Id f ∷ ts) h =
+    let l = names_read ts (f ∷ []) h in
+    with_line f ts l (classes_read (length ts) l.rest l.shorter l.all [] l.goes)
+line_read _ h = never h
 
 -- what leads to a stop is a text, with its end or without
 pub text_of : (ts : List Token) → Accepts ts start → Text ts
-text_of ts h = classes_read (suc (length ts)) ts (omega arith) [] h
+unfolding run
+text_of [] h = without_line [] (record { classes = []; rest = []; spelled = refl; tail = no_end })
+text_of (Id w ∷ ts) h =
+    let p = passed (bytes_eq w features_word) (run ts) (used_name w) (record start { mode = AfterFeatures }) h in
+    let same : features_word ≡ w = sym ((bytes_eq-Decides w features_word).0 p.0) in
+    subst (λ x. Text (Id x ∷ ts)) same (line_read ts p.1)
+text_of (At ∷ ts) h = without_line (At ∷ ts) (classes_read (suc (suc (length ts))) (At ∷ ts) (omega arith) [] [] h)
+text_of (ClassWord ∷ ts) h = without_line (ClassWord ∷ ts) (classes_read (suc (suc (length ts))) (ClassWord ∷ ts) (omega arith) [] [] h)
+text_of (End ∷ ts) h = without_line (End ∷ ts) (classes_read (suc (suc (length ts))) (End ∷ ts) (omega arith) [] [] h)
+text_of _ h = never h

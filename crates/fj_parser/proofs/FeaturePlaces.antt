@@ -23,7 +23,9 @@ position_from-push p i (x ∷ xs) y = by (p x) (position_from-push p (i + 1) xs 
     by false h = let e : i + 1 + length xs ≡ i + length (x ∷ xs) = omega arith in h ∙ ap (λ n. or_last (position_from p (i + 1) xs) (p y) n) e
 
 position-push : {X : Type 0} (p : X → Bool) (xs : List X) (y : X) → position p (xs ++ y ∷ []) ≡ or_last (position p xs) (p y) (length xs)
-position-push p xs y = position_from-zero p (xs ++ y ∷ []) ∙ position_from-push p 0 xs y ∙ ap (λ o. or_last o (p y) (length xs)) (sym (position_from-zero p xs))
+position-push p xs y =
+    let e : 0 + length xs ≡ length xs = omega arith in
+    position_from-zero p (xs ++ y ∷ []) ∙ position_from-push p 0 xs y ∙ ap (λ n. or_last (position_from p 0 xs) (p y) n) e ∙ ap (λ o. or_last o (p y) (length xs)) (sym (position_from-zero p xs))
 
 -- a name that has no place takes the next one
 pub placed-new : (es ns : List (Bor (List ℕ) × ℕ)) (fs : List (List ℕ)) (k : Bor (List ℕ)) (n : ℕ) → ArePlaced es fs → n ≡ length fs → lookup (λ x. bytes_eq k.now x.now) es ≡ None → ((q : Bor (List ℕ)) → lookup (λ x. bytes_eq q.now x.now) ns ≡ cond (bytes_eq k.now q.now) (Some n) (lookup (λ x. bytes_eq q.now x.now) es)) → ArePlaced ns (fs ++ k.now ∷ [])

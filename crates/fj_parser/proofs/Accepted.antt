@@ -1,12 +1,12 @@
 -- What becomes of a token that breaks a rule or a limit.
-use Rattle.std.proofs.Common.{◌≡◌, ℕ, List, Option, Some, None, cond, refl, sym, ap, ◌∙◌, inl, inr}
-use Rattle.std.specs.Prelude.{is_some, ◌⊎◌}
+use Rattle.std.proofs.Common.{◌≡◌, Option, Some, None, cond, refl, sym, ap, ◌∙◌, inl, inr}
+use Rattle.std.specs.Prelude.{is_some}
 use Rattle.cfj_model.specs.declared.fault.FaultKind.{FaultKind}
 use Rattle.cfj_model.specs.declared.fault.FaultKind.TheVariants.{Unexpected}
 use Rattle.cfj_model.specs.Tokens.{Token, Id}
 use Rattle.cfj_model.specs.Roles.{Tally, broken_by}
 use Rattle.fj_parser.specs.Accepting.{IsAccepted, worst_of}
-use Rattle.fj_parser.specs.Machine.{State, step, role, misplaced_kind}
+use Rattle.fj_parser.specs.Machine.{State, step, role}
 
 -- it can't stand here, or it is what it breaks
 pub worst_accepted : (s n : State) (t u : Tally) (token : Token) (broken : FaultKind) → broken_by t (role s token) ≡ Some broken → IsAccepted s t token n u (Some (worst_of s token broken))

@@ -1,5 +1,5 @@
 -- The machine's own type, as the state that it stands for.
-use Rattle.std.specs.Prelude.{◌≡◌, ℕ, ◌^◌, ◌<◌, ◌≤◌, Bool, true, false, length, Some, None}
+use Rattle.std.specs.Prelude.{◌≡◌, ◌^◌, ◌<◌, ◌≤◌, Bool, true, false, length, Some, None}
 use Rattle.cfj_model.specs.Tokens.{Token}
 use Rattle.fj_parser.specs.declared.mode.Mode.{Mode}
 use Rattle.fj_parser.specs.declared.machine.Machine.{Machine}

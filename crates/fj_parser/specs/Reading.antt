@@ -1,5 +1,5 @@
 -- How the parser stands towards the text that it reads.
-use Rattle.std.specs.Prelude.{◌≡◌, ℕ, List, [], Some}
+use Rattle.std.specs.Prelude.{◌≡◌, ℕ, List, Some}
 use Rattle.std.specs.Str.{chars}
 use Rattle.cfj_model.specs.ProductLines.{ProductLine}
 use Rattle.cfj_model.specs.Roles.{Role, Tally, nothing, tallied, AreWithin}
@@ -22,9 +22,9 @@ pub record IsReading (text rest : List ℕ) (s : State) (t : Tally) : Type 0 whe
   pub within : AreWithin nothing roles
   pub counts : t ≡ tallied nothing roles
 
--- the product line with no features and these classes
-abbrev pub of_classes : List Class → ProductLine
-of_classes classes = record { model = record { features = [] }; classes = classes }
+-- the product line with these features and classes
+abbrev pub of_parts : List (List ℕ) → List Class → ProductLine
+of_parts features classes = record { model = record { features = features }; classes = classes }
 
 -- what a token of this kind and text is
 abbrev pub token_read : TokenKind → List ℕ → token.Token

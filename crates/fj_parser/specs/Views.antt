@@ -8,7 +8,6 @@ use Rattle.cfj_model.specs.Names.{is_identifier, is_name}
 use Rattle.cfj_model.specs.ProductLines.{most_in_ctor, most_size}
 use Rattle.cfj_model.specs.Tokens as token
 use Rattle.cfj_model.specs.Roles as role
-use Rattle.fj_parser.specs.Machine.{State}
 use Rattle.fj_parser.specs.declared.role.Role.{Role}
 use Rattle.fj_parser.specs.declared.role.Role.TheVariants as r
 use Rattle.fj_parser.specs.declared.symbol.Symbol.{Symbol}

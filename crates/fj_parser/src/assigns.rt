@@ -12,6 +12,7 @@ use crate::symbol::Symbol;
 use cfj_model::{Colors, Sent};
 use std::alloc::{AllocError, Global};
 
+/// The assignments of a constructor.
 impl<'a> Machine<'a> {
     pub(crate) fn in_assigns(&mut self, symbol: Symbol<'a>) -> bool
         ensures { GoesIn Mode.InAssigns result (machine_seen self.old) (symbol_seen symbol.entry) (machine_seen self.new) }

@@ -11,6 +11,7 @@ use crate::symbol::Symbol;
 use cfj_model::{Colors, Param, Sent};
 use std::alloc::{AllocError, Global};
 
+/// The parameters of a constructor, and what it sends.
 impl<'a> Machine<'a> {
     pub(crate) fn in_params(&mut self, symbol: Symbol<'a>) -> bool
         requires { is_name_token (symbol_seen symbol) ≡ true }

@@ -27,6 +27,7 @@ fn marked(colors: Colors, features: &Features<'_>, name: &str) -> Colors
     }
 }
 
+/// The feature line, marks, and the head of a class.
 impl<'a> Machine<'a> {
     pub(crate) fn begin(&mut self, symbol: Symbol<'a>) -> bool
         ensures { GoesIn Mode.Begin result (machine_seen self.old) (symbol_seen symbol.entry) (machine_seen self.new) }

@@ -12,6 +12,7 @@ use cfj_model::{Class, Colors, Constructor, Field, Items};
 use std::alloc::{AllocError, Global};
 use std::mem;
 
+/// The fields of a class, and its end.
 impl<'a> Machine<'a> {
     pub(crate) fn in_members(&mut self, symbol: Symbol<'a>) -> bool
         requires { is_name_token (symbol_seen symbol) ≡ true }

@@ -2,6 +2,7 @@ pub mod Accepted
 pub mod Complete
 pub mod Counts
 pub mod Exact
+pub mod FeaturePlaces
 pub mod FirstFault
 pub mod Kept
 pub mod Law

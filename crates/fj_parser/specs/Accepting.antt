@@ -1,5 +1,5 @@
 -- What becomes of one token.
-use Rattle.std.specs.Prelude.{◌≡◌, Bool, true, is_some, ◌&&◌, if◌then◌else◌, ◌⊎◌, Option, Some, None}
+use Rattle.std.specs.Prelude.{◌≡◌, is_some, ◌&&◌, if◌then◌else◌, ◌⊎◌, Option, Some, None}
 use Rattle.cfj_model.specs.declared.fault.FaultKind.{FaultKind}
 use Rattle.cfj_model.specs.declared.fault.FaultKind.TheVariants.{Reserved, Unexpected}
 use Rattle.cfj_model.specs.Tokens.{Token, Id, is_reserved_word}

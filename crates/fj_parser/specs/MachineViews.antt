@@ -1,5 +1,5 @@
 -- The machine's own type, as the state that it stands for.
-use Rattle.std.specs.Prelude.{◌≡◌, ℕ, ◌^◌, ◌<◌, Bool, true, false, length, Some, None}
+use Rattle.std.specs.Prelude.{◌≡◌, ◌^◌, ◌<◌, ◌≤◌, Bool, true, false, length, Some, None}
 use Rattle.cfj_model.specs.Tokens.{Token}
 use Rattle.fj_parser.specs.declared.mode.Mode.{Mode}
 use Rattle.fj_parser.specs.declared.machine.Machine.{Machine}
@@ -9,13 +9,16 @@ abbrev pub machine_seen : Machine → State
 machine_seen m =
     record {
       mode = m.mode;
+      features = m.features;
       classes = m.classes.items;
+      class_colors = m.class_colors;
       name = m.name.now;
       parent = m.parent.now;
       fields = m.fields.items;
       params = m.params.items;
       sends = m.sends.items;
       assigns = m.assigns.items;
+      colors = m.colors;
       of = m.of.now;
       last = m.last.now;
     }
@@ -25,8 +28,9 @@ abbrev pub GoesIn : Mode → Bool → State → Token → State → Type 0
 GoesIn mode true old t new = step_in mode old t ≡ Some new
 GoesIn mode false old t new = step_in mode old t ≡ None
 
--- one more item has a slot
+-- each feature has a bit, and one more item a slot
 pub record IsRoomy (s : State) : Type 0 where
+  pub features : length s.features ≤ 128
   pub params : length s.params < 2 ^ 16
   pub sends : length s.sends < 2 ^ 16
   pub assigns : length s.assigns < 2 ^ 16

@@ -8,7 +8,6 @@ use Rattle.cfj_model.specs.Names.{is_identifier, is_name}
 use Rattle.cfj_model.specs.ProductLines.{most_in_ctor, most_size}
 use Rattle.cfj_model.specs.Tokens as token
 use Rattle.cfj_model.specs.Roles as role
-use Rattle.fj_parser.specs.Machine.{State}
 use Rattle.fj_parser.specs.declared.role.Role.{Role}
 use Rattle.fj_parser.specs.declared.role.Role.TheVariants as r
 use Rattle.fj_parser.specs.declared.symbol.Symbol.{Symbol}
@@ -52,6 +51,8 @@ rare_token m =
     else token.DoubleArrow)))
 
 abbrev pub role_seen : Role → role.Role
+role_seen (r.FeatureName w) = role.feature_name w.now
+role_seen (r.MarkName w) = role.mark_name w.now
 role_seen (r.ClassName w) = role.class_name w.now
 role_seen (r.FieldName w) = role.field_name w.now
 role_seen (r.ParamName w) = role.param_name w.now
@@ -62,6 +63,8 @@ role_seen r.Plain = role.plain
 
 -- the name in a role is an identifier
 abbrev pub is_identifier_role : role.Role → Bool
+is_identifier_role (role.feature_name w) = is_identifier w
+is_identifier_role (role.mark_name w) = is_identifier w
 is_identifier_role (role.class_name w) = is_identifier w
 is_identifier_role (role.field_name w) = is_identifier w
 is_identifier_role (role.param_name w) = is_identifier w
@@ -71,7 +74,7 @@ is_identifier_role (role.used_name w) = is_identifier w
 is_identifier_role role.plain = true
 
 abbrev pub tally_seen : Tally → role.Tally
-tally_seen t = record { classes = t.classes; fields = t.fields; params = t.params; sends = t.sends; assigns = t.assigns; size = t.size }
+tally_seen t = record { features = t.features; marks = t.marks; classes = t.classes; fields = t.fields; params = t.params; sends = t.sends; assigns = t.assigns; size = t.size }
 
 -- the last test of a name that counts
 abbrev pub broken_by_size : role.Tally → Option FaultKind

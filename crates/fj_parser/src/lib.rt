@@ -6,9 +6,15 @@
 #![tactic(auto)]
 
 mod accept;
+mod assigns;
+mod ctors;
+mod features;
+mod heads;
 mod machine;
+mod members;
 mod met;
 mod mode;
+mod names;
 mod parser;
 mod role;
 mod symbol;

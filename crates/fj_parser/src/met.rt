@@ -56,6 +56,8 @@ impl<'a> Met<'a> {
     pub fn clear(&mut self)
         ensures { self.new ≡ [] }
     {
-        self.names.clear();
+        if !self.names.is_empty() {
+            self.names.clear();
+        }
     }
 }

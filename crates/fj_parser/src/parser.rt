@@ -8,14 +8,14 @@ ghost use Rattle.fj_parser.specs.Counting.{Counted};
 ghost use Rattle.fj_parser.specs.Machine.{is_read};
 ghost use Rattle.fj_parser.specs.MachineViews.{machine_seen, IsRoomy};
 ghost use Rattle.fj_parser.specs.Answers.{IsReadAs, IsRefusedAs};
-ghost use Rattle.fj_parser.specs.Reading.{IsReading, fault_kind, fault_place, of_classes, token_read};
+ghost use Rattle.fj_parser.specs.Reading.{IsReading, fault_kind, fault_place, of_parts, token_read};
 ghost use Rattle.fj_parser.specs.Views.{symbol_seen, tally_seen};
 
 use crate::accept::accept;
 use crate::machine::Machine;
 use crate::symbol::{Symbol, mark_symbol, reserved_symbol};
 use crate::tally::Tally;
-use cfj_model::{Class, FaultKind, FeatureModel, Items, ParseFault, Project};
+use cfj_model::{Class, FaultKind, FeatureModel, Items, Name, ParseFault, Project};
 use fj_lexer::{LexFault, Lexer, Token, TokenKind};
 use std::alloc::Global;
 use std::str;
@@ -78,7 +78,7 @@ fn read_tokens<'a>(
     requires utf8 { IsUtf8 lexer.old.text.now }
     requires reading { IsReading lexer.old.text.now lexer.old.rest.now (machine_seen machine.old) (tally_seen tally.old) }
     requires counted { Counted (machine_seen machine.old) (tally_seen tally.old) }
-    ensures read { OnOk result (IsTextOf lexer.old.text.now (of_classes machine.new.classes.items)) }
+    ensures read { OnOk result (IsTextOf lexer.old.text.now (of_parts machine.new.features machine.new.classes.items)) }
     ensures fault { (at : ℕ) (kind : _) → result ≡ Err (ParseFault.At at kind) → IsFirstFault lexer.old.text.now at kind }
 {
     'tokens: while let Some(next) = lexer.next() {
@@ -91,16 +91,16 @@ fn read_tokens<'a>(
     take(alloc, machine, tally, Symbol::End, lexer.text.len())
 }
 
-/// The classes of a text.
-fn read_classes(alloc: Global, text: &str) -> Result<Vec<Class>, ParseFault>
-    ensures read { IfOk result (λ classes. IsTextOf text.now (of_classes classes.items)) }
+/// The features and classes of a text.
+fn read_parts(alloc: Global, text: &str) -> Result<(Vec<Name>, Vec<Class>), ParseFault>
+    ensures read { IfOk result (λ parts. IsTextOf text.now (of_parts parts.0.items parts.1.items)) }
     ensures fault { (at : ℕ) (kind : _) → result ≡ Err (ParseFault.At at kind) → IsFirstFault text.now at kind }
 {
     let mut lexer = Lexer::new(text);
     let mut machine = Machine::new(alloc);
     let mut tally = Tally::new(alloc);
     read_tokens(alloc, &mut lexer, &mut machine, &mut tally)?;
-    Ok(machine.into_classes())
+    Ok(machine.into_parts())
 }
 
 fn read_project(alloc: Global, text: &[u8]) -> Result<Project, ParseFault>
@@ -116,8 +116,8 @@ fn read_project(alloc: Global, text: &[u8]) -> Result<Project, ParseFault>
             });
         }
     };
-    let classes = read_classes(alloc, text)?;
-    let features = Items::of(Vec::new(alloc));
+    let (features, classes) = read_parts(alloc, text)?;
+    let features = Items::of(features);
     let model = Arc::new(alloc, FeatureModel { features })?;
     Ok(Project::of(model, classes)?)
 }

@@ -2,12 +2,16 @@ ghost use Rattle.std.specs.Prelude.{◌≡◌};
 ghost use Rattle.fj_parser.specs.Machine.{name_role, role_in};
 ghost use Rattle.fj_parser.specs.Views.{role_seen, symbol_seen};
 
-use crate::mode::Mode;
+use crate::mode::{Mode, Node};
 use crate::symbol::Symbol;
 
 /// What a token is in its text; the names are those that a rule or a limit is about.
 #[derive(Clone, Copy)]
 pub enum Role<'a> {
+    /// The name of a feature, where it is declared.
+    FeatureName(&'a str),
+    /// The name in a mark.
+    MarkName(&'a str),
     /// The name of a class.
     ClassName(&'a str),
     /// The name of a field.
@@ -29,10 +33,12 @@ fn name_role<'a>(mode: Mode, name: &'a str) -> Role<'a>
     ensures { role_seen result ≡ name_role mode name.now }
 {
     match mode {
+        Mode::AfterFeatures | Mode::AfterFeatureComma => Role::FeatureName(name),
+        Mode::AfterAt(_) => Role::MarkName(name),
         Mode::AfterClass => Role::ClassName(name),
-        Mode::AfterType => Role::FieldName(name),
+        Mode::AfterType | Mode::AfterMarkedType => Role::FieldName(name),
         Mode::AfterParamType => Role::ParamName(name),
-        Mode::InSends | Mode::AfterSendComma => Role::SentName(name),
+        Mode::InSends | Mode::AfterSendComma | Mode::AfterMark(Node::Send) => Role::SentName(name),
         Mode::AfterThisDot => Role::AssignedName(name),
         _ => Role::UsedName(name),
     }

@@ -3,9 +3,13 @@ ghost use Rattle.cfj_model.specs.Names.{is_identifier, is_name};
 ghost use Rattle.cfj_model.specs.Roles as spec;
 
 use crate::met::Met;
+use crate::names::name_of;
 use crate::role::Role;
-use cfj_model::{FaultKind, LimitKind, MOST_NAME_BYTES, Name};
+use cfj_model::{FaultKind, LimitKind, MOST_NAME_BYTES};
 use std::alloc::{AllocError, Global};
+
+/// The most features in a project.
+const MOST_FEATURES: usize = 128;
 
 /// The most classes in a project.
 const MOST_CLASSES: usize = 1024;
@@ -19,9 +23,12 @@ const MOST_IN_CTOR: usize = 1024;
 /// The most declarations, sent names and assignments in a project.
 const MOST_SIZE: usize = 1_000_000;
 
-/// What was met before a place: all class names, the names of the class in hand, and the size.
+/// What was met before a place: all features and class names, the names of the class in hand, the marks of the node in hand,
+/// and the size.
 #[derive(Drop)]
 pub struct Tally<'a> {
+    pub features: Met<'a>,
+    pub marks: Met<'a>,
     pub classes: Met<'a>,
     pub fields: Met<'a>,
     pub params: Met<'a>,
@@ -40,10 +47,7 @@ fn twice(alloc: Global, name: &str) -> Result<FaultKind, AllocError>
     requires { is_name name.now ≡ true }
     ensures { IfOk result (λ kind. kind ≡ FaultKind.Twice name.now) }
 {
-    match Name::of(alloc, name)? {
-        Some(name) => Ok(FaultKind::Twice(name)),
-        None => unreachable!(),
-    }
+    Ok(FaultKind::Twice(name_of(alloc, name)?))
 }
 
 impl<'a> Tally<'a> {
@@ -55,6 +59,8 @@ impl<'a> Tally<'a> {
         ensures { tally_seen result ≡ spec.nothing }
     {
         Tally {
+            features: Met::new(alloc),
+            marks: Met::new(alloc),
             classes: Met::new(alloc),
             fields: Met::new(alloc),
             params: Met::new(alloc),
@@ -70,6 +76,8 @@ impl<'a> Tally<'a> {
         ensures { IfOk result (λ fault. fault ≡ spec.broken_by (tally_seen self.now) (role_seen role.entry)) }
     {
         match role {
+            Role::FeatureName(name) => self.broken_by_feature(alloc, name),
+            Role::MarkName(name) => self.broken_by_mark(alloc, name),
             Role::ClassName(name) => self.broken_by_class(alloc, name),
             Role::FieldName(name) => self.broken_by_field(alloc, name),
             Role::ParamName(name) => self.broken_by_param(alloc, name),
@@ -92,6 +100,38 @@ impl<'a> Tally<'a> {
             return Some(FaultKind::Limit(LimitKind::Size));
         }
         None
+    }
+
+    fn broken_by_feature(&self, alloc: Global, name: &str) -> Result<Option<FaultKind>, AllocError>
+        requires { is_identifier name.now ≡ true }
+        ensures { IfOk result (λ fault. fault ≡ spec.broken_by (tally_seen self.now) (spec.feature_name name.now)) }
+    {
+        if is_long(name) {
+            return Ok(Some(FaultKind::Limit(LimitKind::Name)));
+        }
+        if self.features.has(name) {
+            return Ok(Some(twice(alloc, name)?));
+        }
+        if self.features.len() >= MOST_FEATURES {
+            return Ok(Some(FaultKind::Limit(LimitKind::Features)));
+        }
+        Ok(None)
+    }
+
+    fn broken_by_mark(&self, alloc: Global, name: &str) -> Result<Option<FaultKind>, AllocError>
+        requires { is_identifier name.now ≡ true }
+        ensures { IfOk result (λ fault. fault ≡ spec.broken_by (tally_seen self.now) (spec.mark_name name.now)) }
+    {
+        if is_long(name) {
+            return Ok(Some(FaultKind::Limit(LimitKind::Name)));
+        }
+        if !self.features.has(name) {
+            return Ok(Some(FaultKind::NoFeature(name_of(alloc, name)?)));
+        }
+        if self.marks.has(name) {
+            return Ok(Some(twice(alloc, name)?));
+        }
+        Ok(None)
     }
 
     fn broken_by_class(&self, alloc: Global, name: &str) -> Result<Option<FaultKind>, AllocError>
@@ -163,20 +203,27 @@ impl<'a> Tally<'a> {
         ensures { OnOk result (tally_seen self.new ≡ spec.counted (tally_seen self.old) (role_seen role.entry)) }
     {
         match role {
+            Role::FeatureName(name) => self.features.add(name),
+            Role::MarkName(name) => self.marks.add(name),
             Role::ClassName(name) => self.count_class(name),
             Role::FieldName(name) => self.count_field(name),
             Role::ParamName(name) => self.count_param(name),
             Role::SentName(_) => {
+                self.marks.clear();
                 self.sends += 1;
                 self.size += 1;
                 Ok(())
             }
             Role::AssignedName(_) => {
+                self.marks.clear();
                 self.assigns += 1;
                 self.size += 1;
                 Ok(())
             }
-            Role::UsedName(_) => Ok(()),
+            Role::UsedName(_) => {
+                self.marks.clear();
+                Ok(())
+            }
             Role::Plain => Ok(()),
         }
     }
@@ -187,6 +234,7 @@ impl<'a> Tally<'a> {
         ensures { OnOk result (tally_seen self.new ≡ spec.counted (tally_seen self.old) (spec.class_name name.now)) }
     {
         self.classes.add(name)?;
+        self.marks.clear();
         self.fields.clear();
         self.params.clear();
         self.sends = 0;
@@ -201,6 +249,7 @@ impl<'a> Tally<'a> {
         ensures { OnOk result (tally_seen self.new ≡ spec.counted (tally_seen self.old) (spec.field_name name.now)) }
     {
         self.fields.add(name)?;
+        self.marks.clear();
         self.size += 1;
         Ok(())
     }
@@ -211,6 +260,7 @@ impl<'a> Tally<'a> {
         ensures { OnOk result (tally_seen self.new ≡ spec.counted (tally_seen self.old) (spec.param_name name.now)) }
     {
         self.params.add(name)?;
+        self.marks.clear();
         self.size += 1;
         Ok(())
     }

@@ -13,5 +13,5 @@ returns-in-Some c =
     let t = tally_seen c.args.tally.now in
     let token = symbol_seen c.args.symbol in
     let breaks : broken_by t (role s token) ≡ Some c.in-Some.broken =
-        ap (broken_by t) (sym c.role_of-role.ensures) ∙ sym c.in_ok-broken.ensures ∙ c.in-Some.is in
+    ap (broken_by t) (sym c.role_of-role.ensures) ∙ sym c.in_ok-broken.ensures ∙ c.in-Some.is in
     subst (λ kind. IsAccepted s t token s t (Some kind)) (sym c.worst.ensures) (worst_accepted s s t t token c.in-Some.broken breaks)

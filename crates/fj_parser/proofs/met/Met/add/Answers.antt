@@ -1,4 +1,4 @@
-use Rattle.std.proofs.Common.{◌≡◌, false, ◌++◌, ◌∷◌, [], sym, ap, map, ◌∙◌}
+use Rattle.std.proofs.Common.{◌≡◌, false, ◌++◌, ◌∷◌, [], ap, map, ◌∙◌}
 use Rattle.cfj_model.specs.ProductLines.{has}
 use Rattle.fj_parser.proofs.MetNames.{insert_key-new}
 use Rattle.fj_parser.proofs.met.Met.add.Goals as goal

@@ -1,4 +1,4 @@
-use Rattle.std.proofs.Common.{◌≡◌, sym, ap, ◌∙◌}
+use Rattle.std.proofs.Common.{ap, ◌∙◌}
 use Rattle.cfj_model.specs.ProductLines.{has}
 use Rattle.fj_parser.proofs.MetNames.{has-map}
 use Rattle.fj_parser.proofs.met.Met.has.Goals as goal

@@ -1,5 +1,5 @@
 use Rattle.fj_parser.proofs.Progress.{reads_first}
-use Rattle.fj_parser.proofs.parser.read_classes.Goals as goal
+use Rattle.fj_parser.proofs.parser.read_parts.Goals as goal
 
 pub read_tokens-requires-clause-reading : goal.read_tokens-requires-clause-reading
 read_tokens-requires-clause-reading c =

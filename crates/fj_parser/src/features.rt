@@ -1,0 +1,77 @@
+ghost use Rattle.std.specs.Prelude.{◌≡◌, ◌<◌, [], ◌∷◌, ◌++◌, true, IfSome, OnOk, length, position};
+ghost use Rattle.std.specs.Str.{bytes_eq};
+ghost use Rattle.cfj_model.specs.Names.{is_name};
+ghost use Rattle.fj_parser.specs.Places.{ArePlaced};
+
+use crate::names::name_of;
+use cfj_model::Name;
+use indexmap::IndexMap;
+use std::alloc::{AllocError, Global};
+use std::marker::Model;
+
+/// The features of a feature line, in order, with a look-up of a feature's number that doesn't go through them.
+///
+/// A name that stands twice keeps its first number.
+#[derive(Drop)]
+pub struct Features<'a> {
+    names: Vec<Name>,
+    places: IndexMap<&'a str, usize>,
+    ghost placed: { ArePlaced places.entries names.items },
+}
+
+impl<'a> Model for Features<'a> {
+    ghost use Rattle.std.specs.Prelude.{List, ℕ};
+
+    ghost Value = { List (List ℕ) };
+
+    ghost view = { λ f. f.names.items };
+}
+
+impl<'a> Features<'a> {
+    /// No feature; no memory is taken.
+    pub fn new(alloc: Global) -> Features<'a>
+        ensures { result ≡ [] }
+    {
+        Features {
+            names: Vec::new(alloc),
+            places: IndexMap::new(alloc),
+        }
+    }
+
+    /// The number of a feature: its place.
+    pub fn place(&self, name: &str) -> Option<usize>
+        ensures place { result ≡ position (λ f. bytes_eq f name.now) self.now }
+        ensures within { IfSome result (λ place. place < length self.now) }
+    {
+        self.places.get(name).copied()
+    }
+
+    /// One more feature.
+    pub fn add(&mut self, alloc: Global, name: &'a str) -> Result<(), AllocError>
+        requires { is_name name.now ≡ true }
+        ensures { OnOk result (self.new ≡ self.old ++ name.now ∷ []) }
+    {
+        let text = name_of(alloc, name)?;
+        let place = self.names.len();
+        self.names.push(text)?;
+        if self.places.get(name).is_some() {
+            return Ok(());
+        }
+        match self.places.insert(name, place) {
+            Ok(_) => Ok(()),
+            Err(failed) => {
+                // No name stands there without its place.
+                self.names.pop();
+                Err(failed.into())
+            }
+        }
+    }
+
+    /// The names, in order.
+    pub fn into_names(self) -> Vec<Name>
+        ensures { result.items ≡ self.entry }
+    {
+        let Features { names, places: _ } = self;
+        names
+    }
+}

@@ -1,0 +1,174 @@
+ghost use Rattle.std.specs.Prelude.{◌≡◌, ◌∷◌, [], ◌++◌, true, IfOk, OnOk};
+ghost use Rattle.cfj_model.specs.Tokens.{OpenParen};
+ghost use Rattle.fj_parser.specs.Machine as spec;
+ghost use Rattle.fj_parser.specs.MachineViews.{machine_seen, GoesIn};
+ghost use Rattle.fj_parser.specs.Views.{symbol_seen, is_name_token};
+
+use crate::machine::{Machine, NO_NAME};
+use crate::mode::{Mode, Node};
+use crate::names::name_of;
+use crate::symbol::Symbol;
+use cfj_model::{Class, Colors, Constructor, Field, Items};
+use std::alloc::{AllocError, Global};
+use std::mem;
+
+/// The fields of a class, and its end.
+impl<'a> Machine<'a> {
+    pub(crate) fn in_members(&mut self, symbol: Symbol<'a>) -> bool
+        requires { is_name_token (symbol_seen symbol) ≡ true }
+        ensures { GoesIn Mode.InMembers result (machine_seen self.old) (symbol_seen symbol.entry) (machine_seen self.new) }
+    {
+        match symbol {
+            Symbol::At => {
+                self.mode = Mode::AfterAt(Node::Member);
+                true
+            }
+            Symbol::Id(of) => {
+                self.of = of;
+                self.mode = Mode::AfterType;
+                true
+            }
+            _ => false,
+        }
+    }
+
+    pub(crate) fn after_mark_member(&mut self, symbol: Symbol<'a>) -> bool
+        requires { is_name_token (symbol_seen symbol) ≡ true }
+        ensures { GoesIn (Mode.AfterMark Node.Member) result (machine_seen self.old) (symbol_seen symbol.entry) (machine_seen self.new) }
+    {
+        match symbol {
+            Symbol::At => {
+                self.mode = Mode::AfterAt(Node::Member);
+                true
+            }
+            Symbol::Id(of) => {
+                self.of = of;
+                self.mode = Mode::AfterMarkedType;
+                true
+            }
+            _ => false,
+        }
+    }
+
+    pub(crate) fn after_type(&mut self, symbol: Symbol<'a>) -> bool
+        requires { is_name_token (symbol_seen symbol) ≡ true }
+        ensures { GoesIn Mode.AfterType result (machine_seen self.old) (symbol_seen symbol.entry) (machine_seen self.new) }
+    {
+        match symbol {
+            Symbol::Id(name) => {
+                self.last = name;
+                self.mode = Mode::AfterFieldName;
+                true
+            }
+            Symbol::OpenParen => self.opens_params(),
+            _ => false,
+        }
+    }
+
+    /// Behind marks the constructor can't stand, so this is a field.
+    pub(crate) fn after_marked_type(&mut self, symbol: Symbol<'a>) -> bool
+        requires { is_name_token (symbol_seen symbol) ≡ true }
+        ensures { GoesIn Mode.AfterMarkedType result (machine_seen self.old) (symbol_seen symbol.entry) (machine_seen self.new) }
+    {
+        match symbol {
+            Symbol::Id(name) => {
+                self.last = name;
+                self.mode = Mode::AfterFieldName;
+                true
+            }
+            _ => false,
+        }
+    }
+
+    /// The constructor has the name of its class.
+    fn opens_params(&mut self) -> bool
+        ensures { GoesIn Mode.AfterType result (machine_seen self.old) OpenParen (machine_seen self.new) }
+    {
+        if self.of != self.name {
+            return false;
+        }
+        self.of = NO_NAME;
+        self.mode = Mode::InParams;
+        true
+    }
+
+    pub(crate) fn after_field_name(
+        &mut self,
+        alloc: Global,
+        symbol: Symbol<'a>,
+    ) -> Result<bool, AllocError>
+        ensures { IfOk result (λ goes. GoesIn Mode.AfterFieldName goes (machine_seen self.old) (symbol_seen symbol.entry) (machine_seen self.new)) }
+    {
+        match symbol {
+            Symbol::Semicolon => {
+                self.push_field(alloc)?;
+                Ok(true)
+            }
+            _ => Ok(false),
+        }
+    }
+
+    fn push_field(&mut self, alloc: Global) -> Result<(), AllocError>
+        ensures { OnOk result (machine_seen self.new ≡ spec.with_field (machine_seen self.old)) }
+    {
+        let of = name_of(alloc, self.of)?;
+        let name = name_of(alloc, self.last)?;
+        self.fields.push(Field {
+            alt: 0,
+            colors: self.colors,
+            of,
+            name,
+        })?;
+        self.colors = Colors::empty();
+        self.of = NO_NAME;
+        self.last = NO_NAME;
+        self.mode = Mode::InMembers;
+        Ok(())
+    }
+
+    pub(crate) fn after_ctor(
+        &mut self,
+        alloc: Global,
+        symbol: Symbol<'a>,
+    ) -> Result<bool, AllocError>
+        ensures { IfOk result (λ goes. GoesIn Mode.AfterCtor goes (machine_seen self.old) (symbol_seen symbol.entry) (machine_seen self.new)) }
+    {
+        match symbol {
+            Symbol::CloseBrace => {
+                self.push_class(alloc)?;
+                Ok(true)
+            }
+            _ => Ok(false),
+        }
+    }
+
+    fn push_class(&mut self, alloc: Global) -> Result<(), AllocError>
+        ensures { OnOk result (machine_seen self.new ≡ spec.behind (machine_seen self.old).features ((machine_seen self.old).classes ++ spec.class_of (machine_seen self.old) ∷ [])) }
+    {
+        let name = name_of(alloc, self.name)?;
+        let parent = name_of(alloc, self.parent)?;
+        let fields = mem::replace(&mut self.fields, Vec::new(alloc));
+        let params = mem::replace(&mut self.params, Vec::new(alloc));
+        let sends = mem::replace(&mut self.sends, Vec::new(alloc));
+        let assigns = mem::replace(&mut self.assigns, Vec::new(alloc));
+        self.classes.push(Class {
+            name,
+            colors: self.class_colors,
+            parent,
+            fields: Items::of(fields),
+            ctor: Constructor {
+                params: Items::of(params),
+                sends: Items::of(sends),
+                assigns: Items::of(assigns),
+            },
+        })?;
+        self.class_colors = Colors::empty();
+        self.colors = Colors::empty();
+        self.name = NO_NAME;
+        self.parent = NO_NAME;
+        self.of = NO_NAME;
+        self.last = NO_NAME;
+        self.mode = Mode::Start;
+        Ok(())
+    }
+}

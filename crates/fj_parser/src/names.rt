@@ -1,0 +1,16 @@
+ghost use Rattle.std.specs.Prelude.{◌≡◌, true, IfOk};
+ghost use Rattle.cfj_model.specs.Names.{is_name};
+
+use cfj_model::Name;
+use std::alloc::{AllocError, Global};
+
+/// A name with this text.
+pub fn name_of(alloc: Global, text: &str) -> Result<Name, AllocError>
+    requires { is_name text.now ≡ true }
+    ensures { IfOk result (λ name. name ≡ text.now) }
+{
+    match Name::of(alloc, text)? {
+        Some(name) => Ok(name),
+        None => unreachable!(),
+    }
+}

@@ -116,8 +116,8 @@ fn read_project(alloc: Global, text: &[u8]) -> Result<Project, ParseFault>
             });
         }
     };
-    let (features, classes) = read_parts(alloc, text)?;
-    let features = Items::of(features);
+    let (names, classes) = read_parts(alloc, text)?;
+    let features = Items::of(names);
     let model = Arc::new(alloc, FeatureModel { features })?;
     Ok(Project::of(model, classes)?)
 }

@@ -28,7 +28,7 @@ returns-in-Err-clause-fault c = λ at kind e.
 
 pub of-requires : goal.of-requires
 of-requires c =
-    let features = c.in_ok-parts.parts.0.items in
-    let classes = c.in_ok-parts.parts.1.items in
+    let features = c.in_ok-names.names.items in
+    let classes = c.in_ok-names.classes.items in
     let is : c.in_ok-model.model.value ≡ of_features features = c.in_ok-model.ensures.ok ∙ ap (λ (x : List (List ℕ)). of_features x) c.of-features.ensures in
-    subst (λ m. IsProject (record { model = m; classes = classes })) (sym is) (text_kept c.in-Ok.text.now (of_parts features classes) c.in_ok-parts.ensures.read)
+    subst (λ m. IsProject (record { model = m; classes = classes })) (sym is) (text_kept c.in-Ok.text.now (of_parts features classes) c.in_ok-names.ensures.read)

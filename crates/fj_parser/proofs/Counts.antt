@@ -12,7 +12,8 @@ use Rattle.cfj_model.specs.declared.class.Sent.{Sent}
 use Rattle.cfj_model.specs.Roles.{feature_name, class_name, field_name, param_name, sent_name, assigned_name, Tally, nothing, counted, broken_by, is_long}
 use Rattle.cfj_model.specs.Grammar.{features_word}
 use Rattle.fj_parser.specs.Machine.{unnamed, State, step, step_in, role, role_in, start}
-use Rattle.fj_parser.specs.Counting.{is_bare_mode, IsCounted, Counted, IsRoomy}
+use Rattle.fj_parser.specs.Counting.{is_bare_mode, IsCounted, Counted}
+use Rattle.fj_parser.specs.MachineViews.{IsRoomy}
 use Rattle.fj_parser.proofs.Kept.{NoneHolds, none_holds}
 use Rattle.fj_parser.specs.declared.mode.Node.TheVariants as node
 use Rattle.fj_parser.specs.declared.mode.Mode.{Mode}

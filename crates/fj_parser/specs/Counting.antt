@@ -1,5 +1,5 @@
 -- The lists in hand against what was counted.
-use Rattle.std.specs.Prelude.{◌≡◌, ℕ, ◌^◌, ◌<◌, ◌≤◌, Bool, true, false, length}
+use Rattle.std.specs.Prelude.{◌≡◌, ℕ, ◌≤◌, Bool, true, false, length}
 use Rattle.cfj_model.specs.Roles.{Tally}
 use Rattle.fj_parser.specs.Machine.{State}
 use Rattle.fj_parser.specs.declared.mode.Node.TheVariants as node
@@ -34,10 +34,3 @@ pub record IsCounted (bare : Bool) (n p q r : ℕ) (t : Tally) : Type 0 where
 -- the lists in hand are no longer than what was counted
 abbrev pub Counted : State → Tally → Type 0
 Counted s t = IsCounted (is_bare_mode s.mode) (length s.features) (length s.params) (length s.sends) (length s.assigns) t
-
--- one more item has a slot, and each feature has a place in a set
-pub record IsRoomy (s : State) : Type 0 where
-  pub features : length s.features ≤ 128
-  pub params : length s.params < 2 ^ 16
-  pub sends : length s.sends < 2 ^ 16
-  pub assigns : length s.assigns < 2 ^ 16

@@ -5,7 +5,7 @@ use Rattle.cfj_model.specs.declared.class.Field.{Field}
 use Rattle.cfj_model.specs.declared.class.Param.{Param}
 use Rattle.cfj_model.specs.declared.class.Sent.{Sent}
 use Rattle.cfj_model.specs.Faults.{IsTextOf}
-use Rattle.cfj_model.specs.Grammar.{Tree, ClassTree, Declared, Named, numbered, value, value_class, value_field, value_param, value_sent}
+use Rattle.cfj_model.specs.Grammar.{Tree, ClassTree, Declared, Named, numbered, value_class, value_field, value_param, value_sent}
 use Rattle.cfj_model.specs.ProductLines.{ProductLine, IsPlain, is_plain, is_plain_class}
 
 both : (a b : Bool) → a ≡ true → b ≡ true → a && b ≡ true

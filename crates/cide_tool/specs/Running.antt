@@ -18,7 +18,10 @@ is_option (first ∷ rest) = first == 45
 
 -- The words are `export`, the name of a project, which doesn't begin with `-`, and `.`, which names no feature.
 abbrev pub is_export : List (String Global) → Bool
-is_export (command ∷ project ∷ names ∷ []) = bytes_eq (string_bytes command) (codes "export") && not (is_option (string_bytes project)) && bytes_eq (string_bytes names) (codes ".")
+is_export (command ∷ project ∷ names ∷ []) =
+    bytes_eq (string_bytes command) (codes "export")
+    && not (is_option (string_bytes project))
+    && bytes_eq (string_bytes names) (codes ".")
 is_export _ = false
 
 -- the name of the project, the second word
@@ -60,7 +63,7 @@ pub record IsRefused (input : Known) (line : List ℕ) : Type 0 where
   pub first : IsFirstFault text at kind
   pub told : line ≡ refusal_line at kind
 
--- The project's text begins with more bytes than a text may have.
+-- The project's text has more bytes than a text may have.
 pub record IsTooLong (input : Known) : Type 0 where
   pub text : List ℕ
   pub all : IsAllOf input text

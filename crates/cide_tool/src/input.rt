@@ -8,8 +8,8 @@ use std::alloc::Global;
 /// The most bytes in the text of a project.
 const MOST_BYTES: usize = 4_194_304;
 
-/// Opens an input, reads it to its end, and hands it back whatever came of that. An input that can't be opened counts as
-/// one that can't be read.
+/// Opens an input, reads it to its end, and hands it back whatever came of that. An input that can't be opened counts
+/// as one that can't be read.
 pub fn read_input<R: Room>(alloc: Global, room: &mut R, name: &str) -> Result<Vec<u8>, ReadAll>
     ensures text { IsInput (R.input room.old name.now) result }
     ensures cause { result ≡ Err ReadAll.ReadFault → Rose (R.read_faults room.old) (R.read_faults room.new) }

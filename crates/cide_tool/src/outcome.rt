@@ -59,7 +59,8 @@ impl Outcome {
 
     /// Says the line where there is one.
     pub fn report<E: Sink>(&self, err: &mut E)
-        ensures said { IsReported (E.held err.old) (E.held err.new) (E.faults err.old) (E.faults err.new) self.now }
+        ensures said { IsReported
+            (E.held err.old) (E.held err.new) (E.faults err.old) (E.faults err.new) self.now }
         ensures named { E.name err.new ≡ E.name err.old }
         ensures later { E.faults err.old ≤ E.faults err.new }
     {
@@ -72,7 +73,8 @@ impl Outcome {
 
 /// Puts a line into a sink. Where the sink fails there is nobody to tell, and the run goes on.
 fn say<E: Sink>(err: &mut E, line: &str)
-    ensures said { IsSaid (E.held err.old) (E.held err.new) (E.faults err.old) (E.faults err.new) line.now }
+    ensures said { IsSaid
+        (E.held err.old) (E.held err.new) (E.faults err.old) (E.faults err.new) line.now }
     ensures named { E.name err.new ≡ E.name err.old }
     ensures later { E.faults err.old ≤ E.faults err.new }
 {

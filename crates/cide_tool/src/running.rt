@@ -12,7 +12,8 @@ use std::alloc::{AllocGlobal, Global};
 
 /// Does what the words ask.
 fn work<R: Room, O: Sink>(alloc: Global, words: &[String], room: &mut R, out: &mut O) -> Outcome
-    ensures text { IsOutcome (R.input room.old (project_name words.now)) (O.held out.old) (O.held out.new) result }
+    ensures text { IsOutcome
+        (R.input room.old (project_name words.now)) (O.held out.old) (O.held out.new) result }
     ensures command { (result ≡ Outcome.Usage) ↔ (is_export words.now ≡ false) }
     ensures read { result ≡ Outcome.ReadFault → Rose (R.read_faults room.old) (R.read_faults room.new) }
     ensures write { result ≡ Outcome.WriteFault → Rose (O.faults out.old) (O.faults out.new) }
@@ -45,7 +46,8 @@ pub fn run_plain<T: AllocGlobal, R: Room, O: Sink, E: Sink>(
     ensures done { result ≡ 0
         → IsExported (R.input room.old (project_name words.now)) (O.held out.old) (O.held out.new) }
     // 3: the project's text isn't in the grammar, and `err` was told of its first fault.
-    ensures refused { result ≡ 3 → (line : List ℕ) × IsRefused (R.input room.old (project_name words.now)) line
+    ensures refused { result ≡ 3
+        → (line : List ℕ) × IsRefused (R.input room.old (project_name words.now)) line
         × IsSaid (E.held err.old) (E.held err.new) (E.faults err.old) (E.faults err.new) line }
     // 4: the words aren't an export.
     ensures usage { (result ≡ 4) ↔ (is_export words.now ≡ false) }
@@ -59,15 +61,17 @@ pub fn run_plain<T: AllocGlobal, R: Room, O: Sink, E: Sink>(
     ensures limit { result ≡ 11 → IsTooLong (R.input room.old (project_name words.now)) }
     // 7, want of memory, has no cause to tell, and there is no other status.
     ensures only { is_status result ≡ true }
-    // At every other status `out` gains nothing.
+    // At every status but 0 and 6 `out` gains nothing.
     ensures kept { ¬ (result ≡ 0) → ¬ (result ≡ 6) → O.held out.new ≡ O.held out.old }
     // At 0 nothing is said on `err`, and at every other status but 3 the line of the status.
     ensures silent { result ≡ 0 → E.held err.new ≡ E.held err.old }
     ensures said { ¬ (result ≡ 0) → ¬ (result ≡ 3)
         → IsSaid (E.held err.old) (E.held err.new) (E.faults err.old) (E.faults err.new) (status_line result) }
     // The sinks keep their names, and no count of faults falls.
-    ensures named { (O.name out.new ≡ O.name out.old) × (E.name err.new ≡ E.name err.old) }
-    ensures later { (O.faults out.old ≤ O.faults out.new) × (E.faults err.old ≤ E.faults err.new) }
+    ensures out_name { O.name out.new ≡ O.name out.old }
+    ensures out_faults { O.faults out.old ≤ O.faults out.new }
+    ensures err_name { E.name err.new ≡ E.name err.old }
+    ensures err_faults { E.faults err.old ≤ E.faults err.new }
     // Nothing of the room changes but its count of read faults.
     ensures reads { R.read_faults room.old ≤ R.read_faults room.new }
     ensures inputs { (other : List ℕ) → R.input room.new other ≡ R.input room.old other }
@@ -92,7 +96,8 @@ pub fn run<T: AllocGlobal, R: Room, O: Sink, E: Sink>(
     ensures done { result ≡ 0
         → IsExported (R.input room.old (project_name words.now)) (O.held out.old) (O.held out.new) }
     // 3: the project's text isn't in the grammar, and `err` was told of its first fault.
-    ensures refused { result ≡ 3 → (line : List ℕ) × IsRefused (R.input room.old (project_name words.now)) line
+    ensures refused { result ≡ 3
+        → (line : List ℕ) × IsRefused (R.input room.old (project_name words.now)) line
         × IsSaid (E.held err.old) (E.held err.new) (E.faults err.old) (E.faults err.new) line }
     // 4: the words aren't an export.
     ensures usage { (result ≡ 4) ↔ (is_export words.now ≡ false) }
@@ -106,15 +111,17 @@ pub fn run<T: AllocGlobal, R: Room, O: Sink, E: Sink>(
     ensures limit { result ≡ 11 → IsTooLong (R.input room.old (project_name words.now)) }
     // 7, want of memory, has no cause to tell, and there is no other status.
     ensures only { is_status result ≡ true }
-    // At every other status `out` gains nothing.
+    // At every status but 0 and 6 `out` gains nothing.
     ensures kept { ¬ (result ≡ 0) → ¬ (result ≡ 6) → O.held out.new ≡ O.held out.old }
     // At 0 nothing is said on `err`, and at every other status but 3 the line of the status.
     ensures silent { result ≡ 0 → E.held err.new ≡ E.held err.old }
     ensures said { ¬ (result ≡ 0) → ¬ (result ≡ 3)
         → IsSaid (E.held err.old) (E.held err.new) (E.faults err.old) (E.faults err.new) (status_line result) }
     // The sinks keep their names, and no count of faults falls.
-    ensures named { (O.name out.new ≡ O.name out.old) × (E.name err.new ≡ E.name err.old) }
-    ensures later { (O.faults out.old ≤ O.faults out.new) × (E.faults err.old ≤ E.faults err.new) }
+    ensures out_name { O.name out.new ≡ O.name out.old }
+    ensures out_faults { O.faults out.old ≤ O.faults out.new }
+    ensures err_name { E.name err.new ≡ E.name err.old }
+    ensures err_faults { E.faults err.old ≤ E.faults err.new }
     // Nothing of the room changes but its count of read faults.
     ensures reads { R.read_faults room.old ≤ R.read_faults room.new }
     ensures inputs { (other : List ℕ) → R.input room.new other ≡ R.input room.old other }

@@ -10,7 +10,8 @@ fn is_option(word: &str) -> bool
 
 /// The name of the project that the words export, if they are an export.
 pub fn exported<'a>(words: &'a [String]) -> Option<&'a String>
-    ensures found { IfSome result (λ name. (is_export words.now ≡ true) × (string_bytes name.now ≡ project_name words.now)) }
+    ensures found { IfSome result (λ name.
+        (is_export words.now ≡ true) × (string_bytes name.now ≡ project_name words.now)) }
     ensures none { IfNone result (is_export words.now ≡ false) }
 {
     match words {

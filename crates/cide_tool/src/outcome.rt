@@ -1,5 +1,4 @@
 ghost use Rattle.std.specs.Prelude.{◌≡◌, ◌≤◌};
-ghost use Rattle.cide_io.specs.Known.{Known};
 ghost use Rattle.cide_tool.specs.Lines.{IsSaid};
 ghost use Rattle.cide_tool.specs.Outcomes.{status_of, line_of, IsReported};
 

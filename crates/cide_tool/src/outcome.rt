@@ -1,0 +1,81 @@
+ghost use Rattle.std.specs.Prelude.{◌≡◌, ◌≤◌};
+ghost use Rattle.cide_tool.specs.Lines.{IsSaid};
+ghost use Rattle.cide_tool.specs.Outcomes.{status_of, line_of, IsReported};
+
+use cide_io::{Sink, put_all};
+
+/// How a run ended.
+#[derive(Drop)]
+pub enum Outcome {
+    /// The command is done.
+    Done,
+    /// The project's text isn't in the grammar; the line says where and why.
+    Refused(String),
+    /// The words aren't a command's.
+    Usage,
+    /// The project couldn't be opened or read.
+    ReadFault,
+    /// The output took no more.
+    WriteFault,
+    /// There was no memory.
+    NoMemory,
+    /// The project's text is longer than a text may be.
+    TooLong,
+}
+
+impl Outcome {
+    /// The status that tells it.
+    pub fn status(&self) -> u8
+        ensures { result ≡ status_of self.now }
+    {
+        match self {
+            Outcome::Done => 0,
+            Outcome::Refused(_) => 3,
+            Outcome::Usage => 4,
+            Outcome::ReadFault => 5,
+            Outcome::WriteFault => 6,
+            Outcome::NoMemory => 7,
+            Outcome::TooLong => 11,
+        }
+    }
+
+    /// The line that tells it; nothing where the command is done.
+    fn line(&self) -> &str
+        ensures { result.now ≡ line_of self.now }
+    {
+        match self {
+            Outcome::Done => "",
+            Outcome::Refused(line) => line.as_str(),
+            Outcome::Usage => {
+                "usage: cide check|export|view|script|serve|audit|certify|verify|sample\n"
+            }
+            Outcome::ReadFault => "read fault\n",
+            Outcome::WriteFault => "write fault\n",
+            Outcome::NoMemory => "no memory\n",
+            Outcome::TooLong => "limit\n",
+        }
+    }
+
+    /// Says the line where there is one.
+    pub fn report<E: Sink>(&self, err: &mut E)
+        ensures said { IsReported
+            (E.held err.old) (E.held err.new) (E.faults err.old) (E.faults err.new) self.now }
+        ensures named { E.name err.new ≡ E.name err.old }
+        ensures later { E.faults err.old ≤ E.faults err.new }
+    {
+        match self {
+            Outcome::Done => {}
+            _ => say(err, self.line()),
+        }
+    }
+}
+
+/// Puts a line into a sink. Where the sink fails there is nobody to tell, and the run goes on.
+fn say<E: Sink>(err: &mut E, line: &str)
+    ensures said { IsSaid
+        (E.held err.old) (E.held err.new) (E.faults err.old) (E.faults err.new) line.now }
+    ensures named { E.name err.new ≡ E.name err.old }
+    ensures later { E.faults err.old ≤ E.faults err.new }
+{
+    let _ = put_all(err, line.as_bytes());
+}

@@ -1,0 +1,133 @@
+ghost use Rattle.std.specs.Prelude.{◌≡◌, ℕ, ◌≤◌, ◌↔◌, List, true, false};
+ghost use Rattle.cide_io.specs.Faults.{Rose};
+ghost use Rattle.cide_tool.specs.Lines.{IsSaid, status_line};
+ghost use Rattle.cide_tool.specs.Outcomes.{IsOutcome};
+ghost use Rattle.cide_tool.specs.Running.{is_export, project_name, is_status, IsExported, IsCutShort, IsRefused, IsTooLong};
+
+use crate::export::export;
+use crate::outcome::Outcome;
+use crate::words::exported;
+use cide_io::{Room, Sink};
+use std::alloc::{AllocGlobal, Global};
+
+/// Does what the words ask.
+fn work<R: Room, O: Sink>(alloc: Global, words: &[String], room: &mut R, out: &mut O) -> Outcome
+    ensures text { IsOutcome
+        (R.input room.old (project_name words.now)) (O.held out.old) (O.held out.new) result }
+    ensures command { (result ≡ Outcome.Usage) ↔ (is_export words.now ≡ false) }
+    ensures read { result ≡ Outcome.ReadFault → Rose (R.read_faults room.old) (R.read_faults room.new) }
+    ensures write { result ≡ Outcome.WriteFault → Rose (O.faults out.old) (O.faults out.new) }
+    ensures named { O.name out.new ≡ O.name out.old }
+    ensures later { O.faults out.old ≤ O.faults out.new }
+    // Nothing of the room changes but its count of read faults.
+    ensures reads { R.read_faults room.old ≤ R.read_faults room.new }
+    ensures inputs { (other : List ℕ) → R.input room.new other ≡ R.input room.old other }
+    ensures outputs { R.shut_outputs room.new ≡ R.shut_outputs room.old }
+    ensures open { R.open_outputs room.new ≡ R.open_outputs room.old }
+    ensures writes { R.write_faults room.new ≡ R.write_faults room.old }
+{
+    match exported(words) {
+        Some(name) => export(alloc, name.as_str(), room, out),
+        None => Outcome::Usage,
+    }
+}
+
+/// Does what the words after the program's name ask, says on `err` what went wrong, and gives the status to end with.
+///
+/// It waits for nobody, and every input that it opens is handed back to the room. A failure of `err` changes nothing.
+pub fn run_plain<T: AllocGlobal, R: Room, O: Sink, E: Sink>(
+    rt: &T,
+    words: &[String],
+    room: &mut R,
+    out: &mut O,
+    err: &mut E,
+) -> u8
+    // 0: the project's text stands for a product line, whose plain print `out` gained.
+    ensures done { result ≡ 0
+        → IsExported (R.input room.old (project_name words.now)) (O.held out.old) (O.held out.new) }
+    // 3: the project's text isn't in the grammar, and `err` was told of its first fault.
+    ensures refused { result ≡ 3
+        → (line : List ℕ) × IsRefused (R.input room.old (project_name words.now)) line
+        × IsSaid (E.held err.old) (E.held err.new) (E.faults err.old) (E.faults err.new) line }
+    // 4: the words aren't an export.
+    ensures usage { (result ≡ 4) ↔ (is_export words.now ≡ false) }
+    // 5: the room counted a read fault.
+    ensures read { result ≡ 5 → Rose (R.read_faults room.old) (R.read_faults room.new) }
+    // 6: `out` counted a fault, and gained a proper prefix of what it gains at 0.
+    ensures write { result ≡ 6 → Rose (O.faults out.old) (O.faults out.new) }
+    ensures cut { result ≡ 6
+        → IsCutShort (R.input room.old (project_name words.now)) (O.held out.old) (O.held out.new) }
+    // 11: the project's text is too long.
+    ensures limit { result ≡ 11 → IsTooLong (R.input room.old (project_name words.now)) }
+    // 7, want of memory, has no cause to tell, and there is no other status.
+    ensures only { is_status result ≡ true }
+    // At every status but 0 and 6 `out` gains nothing.
+    ensures kept { ¬ (result ≡ 0) → ¬ (result ≡ 6) → O.held out.new ≡ O.held out.old }
+    // At 0 nothing is said on `err`, and at every other status but 3 the line of the status.
+    ensures silent { result ≡ 0 → E.held err.new ≡ E.held err.old }
+    ensures said { ¬ (result ≡ 0) → ¬ (result ≡ 3)
+        → IsSaid (E.held err.old) (E.held err.new) (E.faults err.old) (E.faults err.new) (status_line result) }
+    // The sinks keep their names, and no count of faults falls.
+    ensures out_name { O.name out.new ≡ O.name out.old }
+    ensures out_faults { O.faults out.old ≤ O.faults out.new }
+    ensures err_name { E.name err.new ≡ E.name err.old }
+    ensures err_faults { E.faults err.old ≤ E.faults err.new }
+    // Nothing of the room changes but its count of read faults.
+    ensures reads { R.read_faults room.old ≤ R.read_faults room.new }
+    ensures inputs { (other : List ℕ) → R.input room.new other ≡ R.input room.old other }
+    ensures outputs { R.shut_outputs room.new ≡ R.shut_outputs room.old }
+    ensures open { R.open_outputs room.new ≡ R.open_outputs room.old }
+    ensures writes { R.write_faults room.new ≡ R.write_faults room.old }
+{
+    let outcome = work(rt.alloc(), words, room, out);
+    outcome.report(err);
+    outcome.status()
+}
+
+/// Does what the words after the program's name ask, as [`run_plain`] does.
+pub fn run<T: AllocGlobal, R: Room, O: Sink, E: Sink>(
+    rt: &T,
+    words: &[String],
+    room: &mut R,
+    out: &mut O,
+    err: &mut E,
+) -> u8
+    // 0: the project's text stands for a product line, whose plain print `out` gained.
+    ensures done { result ≡ 0
+        → IsExported (R.input room.old (project_name words.now)) (O.held out.old) (O.held out.new) }
+    // 3: the project's text isn't in the grammar, and `err` was told of its first fault.
+    ensures refused { result ≡ 3
+        → (line : List ℕ) × IsRefused (R.input room.old (project_name words.now)) line
+        × IsSaid (E.held err.old) (E.held err.new) (E.faults err.old) (E.faults err.new) line }
+    // 4: the words aren't an export.
+    ensures usage { (result ≡ 4) ↔ (is_export words.now ≡ false) }
+    // 5: the room counted a read fault.
+    ensures read { result ≡ 5 → Rose (R.read_faults room.old) (R.read_faults room.new) }
+    // 6: `out` counted a fault, and gained a proper prefix of what it gains at 0.
+    ensures write { result ≡ 6 → Rose (O.faults out.old) (O.faults out.new) }
+    ensures cut { result ≡ 6
+        → IsCutShort (R.input room.old (project_name words.now)) (O.held out.old) (O.held out.new) }
+    // 11: the project's text is too long.
+    ensures limit { result ≡ 11 → IsTooLong (R.input room.old (project_name words.now)) }
+    // 7, want of memory, has no cause to tell, and there is no other status.
+    ensures only { is_status result ≡ true }
+    // At every status but 0 and 6 `out` gains nothing.
+    ensures kept { ¬ (result ≡ 0) → ¬ (result ≡ 6) → O.held out.new ≡ O.held out.old }
+    // At 0 nothing is said on `err`, and at every other status but 3 the line of the status.
+    ensures silent { result ≡ 0 → E.held err.new ≡ E.held err.old }
+    ensures said { ¬ (result ≡ 0) → ¬ (result ≡ 3)
+        → IsSaid (E.held err.old) (E.held err.new) (E.faults err.old) (E.faults err.new) (status_line result) }
+    // The sinks keep their names, and no count of faults falls.
+    ensures out_name { O.name out.new ≡ O.name out.old }
+    ensures out_faults { O.faults out.old ≤ O.faults out.new }
+    ensures err_name { E.name err.new ≡ E.name err.old }
+    ensures err_faults { E.faults err.old ≤ E.faults err.new }
+    // Nothing of the room changes but its count of read faults.
+    ensures reads { R.read_faults room.old ≤ R.read_faults room.new }
+    ensures inputs { (other : List ℕ) → R.input room.new other ≡ R.input room.old other }
+    ensures outputs { R.shut_outputs room.new ≡ R.shut_outputs room.old }
+    ensures open { R.open_outputs room.new ≡ R.open_outputs room.old }
+    ensures writes { R.write_faults room.new ≡ R.write_faults room.old }
+{
+    run_plain(rt, words, room, out, err)
+}

@@ -45,4 +45,11 @@ impl Colors {
     {
         self.bits & (1 << feature) != 0
     }
+
+    // The word itself, for a test of the whole set at once.
+    pub(crate) fn bits(self) -> u128
+        ensures { result ≡ self }
+    {
+        self.bits
+    }
 }

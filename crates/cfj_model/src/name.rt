@@ -141,4 +141,12 @@ impl Name {
     {
         self.text.as_str()
     }
+
+    /// The same name, in memory of its own.
+    pub fn copy(&self, alloc: Global) -> Result<Name, AllocError>
+        ensures { IfOk result (λ name. name ≡ self.now) }
+    {
+        let text = String::from_str(alloc, self.text.as_str())?;
+        Ok(Name { text })
+    }
 }

@@ -1,6 +1,7 @@
 ghost use Rattle.std.specs.Prelude.{◌≡◌, ℕ, ◌^◌, ◌<◌, ◌≤◌, ◌↔◌, ◌≢◌, IsTrue, IsBitSet, bit_or, true};
-ghost use Rattle.cfj_model.specs.Selections.{is_on};
+ghost use Rattle.cfj_model.specs.Selections.{is_on, is_subset};
 
+use crate::colors::Colors;
 use std::marker::Model;
 
 /// The features of a model that a variant takes, in one word.
@@ -52,6 +53,14 @@ impl Selection {
         ensures bit { IsTrue result ↔ IsBitSet self.now.on feature }
     {
         self.bits & (1 << feature) != 0
+    }
+
+    /// Whether all of these features are selected.
+    pub fn includes(&self, colors: Colors) -> bool
+        ensures { result ≡ is_subset colors self.now.on }
+    {
+        let bits = colors.bits();
+        bits & self.bits == bits
     }
 
     /// The model's number of features.

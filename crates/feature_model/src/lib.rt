@@ -1,0 +1,9 @@
+//! What a feature model says of selections of its features.
+//!
+//! Rests on `cfj_model`, which has the model, names and selections. `specs/NamedSelections.antt` says which selection a list of
+//! names spells, and which name is at fault where it spells none.
+#![tactic(auto)]
+
+mod names;
+
+pub use names::{NameFault, read_selection};

@@ -1,0 +1,150 @@
+-- A variant is a plain project.
+use Rattle.std.proofs.Common.{◌≡◌, refl, ℕ, ◌≤◌, Bool, true, not, ◌&&◌, ◌==◌, nat_le, List, [], length, map, arith}
+use Rattle.std.specs.List.{filter, list_all}
+use Rattle.std.specs.Str.{bytes_eq}
+use Rattle.std.proofs.lemmas.Bool.{and_parts, and_from}
+use Rattle.cfj_model.specs.Names.{is_short_identifier}
+use Rattle.cfj_model.specs.declared.class.Field.{Field}
+use Rattle.cfj_model.specs.declared.class.Param.{Param}
+use Rattle.cfj_model.specs.declared.class.Sent.{Sent}
+use Rattle.cfj_model.specs.declared.class.Constructor.{Constructor}
+use Rattle.cfj_model.specs.declared.class.Class.{Class}
+use Rattle.cfj_model.specs.declared.feature_model.FeatureModel.{FeatureModel}
+use Rattle.cfj_model.specs.ProductLines.{ProductLine, IsProject, IsPlain, object, most_fields, most_in_ctor, most_classes, most_size, are_known, are_distinct, rise_from, is_field, is_param, is_sent, are_fields, are_params, are_sents, is_ctor, is_class, class_size, is_plain_class}
+use Rattle.cfj_model.specs.Projection.{presence_of, is_present, bare_field, bare_param, bare_sent, present_fields, present_params, present_sents, projected_ctor, projected_class, projected}
+use Rattle.cfj_model.specs.Selections.{Chosen}
+use Rattle.feature_views.specs.Selected.{present_classes}
+use Rattle.feature_views.proofs.Kept.{length_kept, few_kept, small_kept, distinct_kept, rise_kept, all_kept, all_made}
+
+-- no colours are known to any model
+unmarked_2 : (known b : Bool) → (known && b) ≡ true → (true && b) ≡ true
+unmarked_2 known b e = (and_parts known b e).1
+
+unmarked_3 : (known b c : Bool) → (known && b && c) ≡ true → (true && b && c) ≡ true
+unmarked_3 known b c e =
+    let outer = and_parts (known && b) c e in
+    and_from b c (unmarked_2 known b outer.0) outer.1
+
+unmarked_4 : (a known b c : Bool) → (a && known && b && c) ≡ true → (a && true && b && c) ≡ true
+unmarked_4 a known b c e =
+    let outer = and_parts (a && known && b) c e in
+    let inner = and_parts (a && known) b outer.0 in
+    and_from (a && true && b) c (and_from (a && true) b (and_from a true (and_parts a known inner.0).0 refl) inner.1) outer.1
+
+bare_is_field : (features : ℕ) (f : Field) → is_field features f ≡ true → is_field 0 (bare_field f) ≡ true
+bare_is_field features f e = unmarked_4 (f.alt == 0) (are_known features f.colors) (is_short_identifier f.of) (is_short_identifier f.name) e
+
+bare_is_param : (features : ℕ) (p : Param) → is_param features p ≡ true → is_param 0 (bare_param p) ≡ true
+bare_is_param features p e = unmarked_3 (are_known features p.colors) (is_short_identifier p.of) (is_short_identifier p.name) e
+
+bare_is_sent : (features : ℕ) (a : Sent) → is_sent features a ≡ true → is_sent 0 (bare_sent a) ≡ true
+bare_is_sent features a e = unmarked_2 (are_known features a.colors) (is_short_identifier a.name) e
+
+module _ (s : Chosen) (around features : ℕ) where
+  kept_fields : (fs : List Field) → are_fields features fs ≡ true → are_fields 0 (present_fields s around fs) ≡ true
+  kept_fields fs e =
+      let keeps : Field → Bool = λ f. is_present s (presence_of around f.colors) in
+      let outer = and_parts (nat_le (length fs) most_fields && are_distinct (map (λ (f : Field). f.name) fs)) (list_all (is_field features) fs) e in
+      let inner = and_parts (nat_le (length fs) most_fields) (are_distinct (map (λ (f : Field). f.name) fs)) outer.0 in
+      and_from _ _
+      (and_from _ _ (few_kept bare_field keeps most_fields fs inner.0) (distinct_kept bare_field keeps (λ f. f.name) fs inner.1))
+      (all_kept bare_field keeps (is_field features) (is_field 0) (bare_is_field features) fs outer.1)
+
+  kept_params : (ps : List Param) → are_params features ps ≡ true → are_params 0 (present_params s around ps) ≡ true
+  kept_params ps e =
+      let keeps : Param → Bool = λ p. is_present s (presence_of around p.colors) in
+      let few = nat_le (length ps) most_in_ctor in
+      let distinct = are_distinct (map (λ (p : Param). p.name) ps) in
+      let rise = rise_from 0 (map (λ (p : Param). p.slot) ps) in
+      let outer = and_parts (few && distinct && rise) (list_all (is_param features) ps) e in
+      let middle = and_parts (few && distinct) rise outer.0 in
+      let inner = and_parts few distinct middle.0 in
+      and_from _ _
+      (and_from _ _
+      (and_from _ _ (few_kept bare_param keeps most_in_ctor ps inner.0) (distinct_kept bare_param keeps (λ p. p.name) ps inner.1))
+      (rise_kept bare_param keeps (λ p. p.slot) ps middle.1))
+      (all_kept bare_param keeps (is_param features) (is_param 0) (bare_is_param features) ps outer.1)
+
+  kept_sents : (ss : List Sent) → are_sents features ss ≡ true → are_sents 0 (present_sents s around ss) ≡ true
+  kept_sents ss e =
+      let keeps : Sent → Bool = λ a. is_present s (presence_of around a.colors) in
+      let few = nat_le (length ss) most_in_ctor in
+      let rise = rise_from 0 (map (λ (a : Sent). a.slot) ss) in
+      let outer = and_parts (few && rise) (list_all (is_sent features) ss) e in
+      let inner = and_parts few rise outer.0 in
+      and_from _ _
+      (and_from _ _ (few_kept bare_sent keeps most_in_ctor ss inner.0) (rise_kept bare_sent keeps (λ a. a.slot) ss inner.1))
+      (all_kept bare_sent keeps (is_sent features) (is_sent 0) (bare_is_sent features) ss outer.1)
+
+  kept_ctor : (c : Constructor) → is_ctor features c ≡ true → is_ctor 0 (projected_ctor s around c) ≡ true
+  kept_ctor c e =
+      let outer = and_parts (are_params features c.params && are_sents features c.sends) (are_sents features c.assigns) e in
+      let inner = and_parts (are_params features c.params) (are_sents features c.sends) outer.0 in
+      and_from _ _ (and_from _ _ (kept_params c.params inner.0) (kept_sents c.sends inner.1)) (kept_sents c.assigns outer.1)
+
+kept_class : (s : Chosen) (features : ℕ) (k : Class) → is_class features k ≡ true → is_class 0 (projected_class s k) ≡ true
+unfolding is_class
+kept_class s features k e =
+    let named = is_short_identifier k.name in
+    let own = not (bytes_eq k.name object) in
+    let known = are_known features k.colors in
+    let under = is_short_identifier k.parent in
+    let fields = are_fields features k.fields in
+    let ctor = and_parts (named && own && known && under && fields) (is_ctor features k.ctor) e in
+    let body = and_parts (named && own && known && under) fields ctor.0 in
+    let heading = unmarked_heading named own known under body.0 in
+    and_from _ _ (and_from _ _ heading (kept_fields s k.colors features k.fields body.1)) (kept_ctor s k.colors features k.ctor ctor.1)
+  where
+    unmarked_heading : (a b known c : Bool) → (a && b && known && c) ≡ true → (a && b && true && c) ≡ true
+    unmarked_heading a b known c h =
+        let outer = and_parts (a && b && known) c h in
+        let inner = and_parts (a && b) known outer.0 in
+        and_from (a && b && true) c (and_from (a && b) true inner.0 refl) outer.1
+
+kept_size : (s : Chosen) (k : Class) → class_size (projected_class s k) ≤ class_size k
+kept_size s k =
+    let fields = length_kept bare_field (λ f. is_present s (presence_of k.colors f.colors)) k.fields in
+    let params = length_kept bare_param (λ p. is_present s (presence_of k.colors p.colors)) k.ctor.params in
+    let sends = length_kept bare_sent (λ a. is_present s (presence_of k.colors a.colors)) k.ctor.sends in
+    let assigns = length_kept bare_sent (λ a. is_present s (presence_of k.colors a.colors)) k.ctor.assigns in
+    omega arith
+
+-- what a project keeps, its variant keeps
+pub variant_is_project : (s : Chosen) (p : ProductLine) → IsProject p → IsProject (projected s p)
+unfolding projected
+variant_is_project s p h =
+    let keeps : Class → Bool = λ k. is_present s k.colors in
+    let made = projected_class s in
+    record {
+      few_features = refl;
+      features_named = refl;
+      features_distinct = refl;
+      few_classes = few_kept made keeps most_classes p.classes h.few_classes;
+      classes_distinct = distinct_kept made keeps (λ k. k.name) p.classes h.classes_distinct;
+      each_class = all_kept made keeps (is_class (length p.model.features)) (is_class 0) (kept_class s (length p.model.features)) p.classes h.each_class;
+      fits = small_kept made keeps class_size class_size (kept_size s) most_size p.classes h.fits;
+    }
+
+unmarked : {A B : Type 0} (bare : A → B) (colors : B → ℕ) (keeps : A → Bool) → ((x : A) → (colors (bare x) == 0) ≡ true) → (xs : List A) → list_all (λ y. colors y == 0) (map bare (filter keeps xs)) ≡ true
+unmarked bare colors keeps h xs = all_made bare keeps (λ y. colors y == 0) h xs
+
+plain_class : (s : Chosen) (k : Class) → is_plain_class (projected_class s k) ≡ true
+unfolding is_plain_class
+plain_class s k =
+    and_from _ _
+    (and_from _ _
+    (and_from _ _
+    (unmarked bare_field (λ (f : Field). f.colors) (λ f. is_present s (presence_of k.colors f.colors)) (λ f. refl) k.fields)
+    (unmarked bare_param (λ (p : Param). p.colors) (λ p. is_present s (presence_of k.colors p.colors)) (λ p. refl) k.ctor.params))
+    (unmarked bare_sent (λ (a : Sent). a.colors) (λ a. is_present s (presence_of k.colors a.colors)) (λ a. refl) k.ctor.sends))
+    (unmarked bare_sent (λ (a : Sent). a.colors) (λ a. is_present s (presence_of k.colors a.colors)) (λ a. refl) k.ctor.assigns)
+
+-- nothing in a variant is marked
+pub variant_is_plain : (s : Chosen) (p : ProductLine) → IsPlain (projected s p)
+unfolding projected
+variant_is_plain s p = all_made (projected_class s) (λ k. is_present s k.colors) is_plain_class (plain_class s) p.classes
+
+-- the present classes without features are the variant
+pub variant_is : (s : Chosen) (p : ProductLine) (model : FeatureModel) (classes : List Class) → model ≡ record { features = [] } → classes ≡ present_classes s p.classes → record { model = model; classes = classes } ≡ projected s p
+unfolding projected
+variant_is s p model classes m k = rw (m, k) refl

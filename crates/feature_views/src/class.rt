@@ -1,0 +1,32 @@
+ghost use Rattle.std.specs.Prelude.{◌≡◌, true, IfOk};
+ghost use Rattle.cfj_model.specs.Projection.{is_present, projected_ctor, projected_class};
+
+use crate::nodes::{fields, params, sents};
+use cfj_model::{Class, Colors, Constructor, Selection};
+use std::alloc::{AllocError, Global};
+
+/// A present class with its present nodes. The class's colours are selected, so each node is tested for its own alone.
+pub fn class_of(alloc: Global, class: &Class, selection: &Selection) -> Result<Class, AllocError>
+    requires { is_present selection.now class.now.colors ≡ true }
+    ensures { IfOk result (λ kept. kept ≡ projected_class selection.now class.now) }
+{
+    Ok(Class {
+        name: class.name.copy(alloc)?,
+        colors: Colors::empty(),
+        parent: class.parent.copy(alloc)?,
+        fields: fields(alloc, &class.fields, selection)?,
+        ctor: ctor_of(alloc, class, selection)?,
+    })
+}
+
+fn ctor_of(alloc: Global, class: &Class, selection: &Selection) -> Result<Constructor, AllocError>
+    requires { is_present selection.now class.now.colors ≡ true }
+    ensures { IfOk result (λ kept. kept ≡ projected_ctor selection.now class.now.colors class.now.ctor) }
+{
+    let ctor = &class.ctor;
+    Ok(Constructor {
+        params: params(alloc, &ctor.params, selection)?,
+        sends: sents(alloc, &ctor.sends, selection)?,
+        assigns: sents(alloc, &ctor.assigns, selection)?,
+    })
+}

@@ -1,0 +1,52 @@
+ghost use Rattle.std.specs.Prelude.{◌≡◌, [], IfOk, length};
+ghost use Rattle.cfj_model.specs.ProductLines.{IsPlain, IsProject};
+ghost use Rattle.cfj_model.specs.Projection.{projected};
+ghost use Rattle.feature_views.specs.Selected.{present_classes};
+
+use crate::class::class_of;
+use cfj_model::{Class, FeatureModel, Items, Project, Selection};
+use std::alloc::{AllocError, Global};
+use std::sync::Arc;
+
+/// The variant of a selection of the project's features: each node stays where its own colours and those of the optional
+/// nodes round it are all selected (Kästner, Apel, Kuhlemann, ICSE 2008). Slots are kept; colours and features are dropped.
+///
+/// Fails only where there is no memory for the variant.
+pub fn project(
+    alloc: Global,
+    project: &Project,
+    selection: &Selection,
+) -> Result<Project, AllocError>
+    requires { selection.now.features ≡ length project.now.model.features }
+    ensures projection { IfOk result (λ variant. variant ≡ projected selection.now project.now) }
+    ensures plain { IfOk result (λ variant. IsPlain variant) }
+{
+    let classes = classes(alloc, project, selection)?;
+    let model = no_features(alloc)?;
+    Project::of(model, classes)
+}
+
+fn no_features(alloc: Global) -> Result<Arc<FeatureModel>, AllocError>
+    ensures { IfOk result (λ model. model.value ≡ record { features = [] }) }
+{
+    let features = Items::of(Vec::new(alloc));
+    Ok(Arc::new(alloc, FeatureModel { features })?)
+}
+
+fn classes(
+    alloc: Global,
+    project: &Project,
+    selection: &Selection,
+) -> Result<Vec<Class>, AllocError>
+    ensures present { IfOk result (λ kept. kept.items ≡ present_classes selection.now project.now.classes) }
+    ensures kept { IsProject project.now }
+{
+    let mut kept = Vec::new(alloc);
+    'classes: for place in 0..project.class_count() {
+        let class = project.class(place);
+        if selection.includes(class.colors) {
+            kept.push(class_of(alloc, class, selection)?)?;
+        }
+    }
+    Ok(kept)
+}

@@ -1,6 +1,7 @@
 #!/usr/bin/env bash
 # Times `cide export` on projects of a quarter, half and the whole of the largest size, and beside it a run of Python that
-# reads the same file, splits it into words and writes them back. Each time is the best of so many runs: export.sh [RUNS].
+# reads the same file, splits it into words and writes them back: first without features, then with 128 of them, of which half
+# are selected. Each time is the best of so many runs: export.sh [RUNS].
 # Ends with status 1 where the whole takes more than five times the quarter, or longer than Python.
 set -eu
 
@@ -23,14 +24,14 @@ best_of() {
     echo "$best"
 }
 
-# a size as its number of classes
+# a number of classes, which is a size, with so many features, under these names
 measure() {
     local file=$work/project.$1
-    python3 "$top/bench/make_project.py" "$1" "$(($1 * 4096))" >"$file"
-    times[$1]=$(best_of "$program" export "$file" .)
+    python3 "$top/bench/make_project.py" "$1" "$(($1 * 4096))" "$2" >"$file"
+    times[$1]=$(best_of "$program" export "$file" "$3")
     python_times[$1]=$(best_of python3 -c "$python_words" "$file")
-    printf '%5d classes, %8d bytes: export %7d us, python %7d us\n' \
-        "$1" "$(stat -c %s "$file")" "${times[$1]}" "${python_times[$1]}"
+    printf '%5d classes, %3d features, %8d bytes: export %7d us, python %7d us\n' \
+        "$1" "$2" "$(stat -c %s "$file")" "${times[$1]}" "${python_times[$1]}"
 }
 
 # says whether a number is at most another
@@ -38,11 +39,17 @@ check() {
     if [ "$2" -le "$3" ]; then echo "yes: $1"; else echo "no: $1"; failed=1; fi
 }
 
+# the three sizes with so many features, under these names
+measure_sizes() {
+    for classes in 256 512 1024; do measure "$classes" "$1" "$2"; done
+    check "the whole takes at most 5 times the quarter" "${times[1024]}" $((5 * times[256]))
+    check "the whole takes at most what python takes" "${times[1024]}" "${python_times[1024]}"
+}
+
 "$top/cide" export "$top/examples/shapes.fj" . >/dev/null
 program=$top/crates/cide/out/cide
 declare -A times python_times
 failed=0
-for classes in 256 512 1024; do measure "$classes"; done
-check "the whole takes at most 5 times the quarter" "${times[1024]}" $((5 * times[256]))
-check "the whole takes at most what python takes" "${times[1024]}" "${python_times[1024]}"
+measure_sizes 0 .
+measure_sizes 128 "$(seq -s , -f 'F%g' 0 2 126)"
 exit "$failed"

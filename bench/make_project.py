@@ -1,43 +1,60 @@
-"""Writes a project without marks of so many classes and at most so many bytes: make_project.py CLASSES BYTES > FILE.
+"""Writes a project of so many classes and at most so many bytes: make_project.py CLASSES BYTES [FEATURES] > FILE.
 
-Classes come in pairs: one with fields of its own, and one that hands those on to it and adds as many more.
+Classes come in pairs: one with fields of its own, and one that hands those on to it and adds as many more. With features,
+each field, parameter, sent name and assignment is marked, in turn with each feature.
 """
 
 import sys
 
 
-def ctor(name, handed_on, own):
-    params = ", ".join(f"Object {field}" for field in handed_on + own)
-    assigns = "".join(f"    this.{field} = {field};\n" for field in own)
-    return f"  {name}({params}) {{\n    super({', '.join(handed_on)});\n{assigns}  }}\n"
+def marks(features, index):
+    return f"@F{index % features} " if features else ""
 
 
-def class_text(name, parent, handed_on, own):
-    fields = "".join(f"  Object {field};\n" for field in own)
-    return f"class {name} extends {parent} {{\n{fields}{ctor(name, handed_on, own)}}}\n"
+def ctor(name, handed_on, own, features):
+    params = ", ".join(
+        f"{marks(features, i)}Object {field}" for i, field in enumerate(handed_on + own)
+    )
+    sends = ", ".join(marks(features, i) + field for i, field in enumerate(handed_on))
+    assigns = "".join(
+        f"    {marks(features, i)}this.{field} = {field};\n" for i, field in enumerate(own)
+    )
+    return f"  {name}({params}) {{\n    super({sends});\n{assigns}  }}\n"
 
 
-def pair_text(number, count):
+def class_text(name, parent, handed_on, own, features):
+    fields = "".join(f"  {marks(features, i)}Object {field};\n" for i, field in enumerate(own))
+    body = fields + ctor(name, handed_on, own, features)
+    return f"class {name} extends {parent} {{\n{body}}}\n"
+
+
+def pair_text(number, count, features):
     base = [f"base_field_{number}_{i}" for i in range(count)]
     more = [f"more_field_{number}_{i}" for i in range(count)]
     first, second = f"Record{number}", f"LongRecord{number}"
-    return class_text(first, "Object", [], base) + class_text(second, first, base, more)
+    return class_text(first, "Object", [], base, features) + class_text(
+        second, first, base, more, features
+    )
 
 
-def widest_pair(number, most):
+def widest_pair(number, most, features):
     """The pair with the most fields that fits, with a comment behind it that fills up what is left."""
     count = 1
-    while count < 64 and len(pair_text(number, count + 1)) <= most:
+    while count < 64 and len(pair_text(number, count + 1, features)) <= most:
         count += 1
-    text = pair_text(number, count)
+    text = pair_text(number, count, features)
     left = most - len(text)
     return text + ("//" + "." * (left - 3) + "\n" if left >= 3 else "\n" * left)
 
 
 def main():
     classes, most = int(sys.argv[1]), int(sys.argv[2])
+    features = int(sys.argv[3]) if len(sys.argv) > 3 else 0
     pairs = classes // 2
-    sys.stdout.write("".join(widest_pair(number, most // pairs) for number in range(pairs)))
+    line = f"features {', '.join(f'F{i}' for i in range(features))};\n" if features else ""
+    each = (most - len(line)) // pairs
+    sys.stdout.write(line)
+    sys.stdout.write("".join(widest_pair(number, each, features) for number in range(pairs)))
 
 
 main()

@@ -1,15 +1,26 @@
 -- The lines that tell on standard error how a run ended.
-use Rattle.std.specs.Prelude.{◌≡◌, ℕ, ◌==◌, List, [], ◌++◌, ◌⊎◌, if◌then◌else◌, codes}
+use Rattle.std.specs.Prelude.{◌≡◌, ℕ, ◌==◌, List, [], ◌++◌, ◌⊎◌, if◌then◌else◌, codes, slice_index_or}
 use Rattle.std.specs.Fmt.{decimal}
 use Rattle.cfj_model.specs.declared.fault.FaultKind.{FaultKind}
 use Rattle.cfj_model.specs.FaultTexts.{kind_text}
 use Rattle.cfj_model.specs.Print.{line_end}
+use Rattle.feature_model.specs.declared.names.NameFault.{NameFault}
+use Rattle.feature_model.specs.declared.names.NameFault.TheVariants.{NoFeature, Twice}
 use Rattle.cide_io.specs.Faults.{Rose}
 use Rattle.cide_io.specs.Known.{Known, appended, IsCut}
 
 -- `refused at AT: KIND`
 abbrev pub refusal_line : ℕ → FaultKind → List ℕ
 refusal_line at kind = codes "refused at " ++ (decimal at ++ (codes ": " ++ (kind_text kind ++ line_end)))
+
+-- the text of a bad name
+abbrev pub bad_name : List (List ℕ) → ℕ → List ℕ
+bad_name names at = slice_index_or names at []
+
+-- `refused names: NoFeature X`, or `refused names: Twice X`
+abbrev pub names_line : List (List ℕ) → NameFault → List ℕ
+names_line names (NoFeature at) = codes "refused names: NoFeature " ++ (bad_name names at ++ line_end)
+names_line names (Twice at) = codes "refused names: Twice " ++ (bad_name names at ++ line_end)
 
 -- the line of a status that always says the same
 abbrev pub status_line : ℕ → List ℕ

@@ -36,15 +36,15 @@ IsInput input (Ok text) = IsAllOf input text.items × (length text.items ≤ mos
 IsInput input (Err TooLong) = IsTooLong input
 IsInput input (Err _) = Unit {0}
 
--- What a project's text comes to, and what the output gains by it: its print, a proper prefix of that, or nothing.
-abbrev pub IsOutcome : Known → Known → Known → Outcome → Type 0
-IsOutcome input old new outcome.Done = IsExported input old new
-IsOutcome input old new (outcome.Refused line) = IsRefused input (string_bytes line) × (new ≡ old)
-IsOutcome input old new outcome.Usage = new ≡ old
-IsOutcome input old new outcome.ReadFault = new ≡ old
-IsOutcome input old new outcome.WriteFault = IsCutShort input old new
-IsOutcome input old new outcome.NoMemory = new ≡ old
-IsOutcome input old new outcome.TooLong = IsTooLong input × (new ≡ old)
+-- What a project's text and the names come to, and what the output gains by it: a print, a proper prefix of that, or nothing.
+abbrev pub IsOutcome : Known → List ℕ → Known → Known → Outcome → Type 0
+IsOutcome input names old new outcome.Done = IsExported input names old new
+IsOutcome input names old new (outcome.Refused line) = IsRefused input names (string_bytes line) × (new ≡ old)
+IsOutcome input names old new outcome.Usage = new ≡ old
+IsOutcome input names old new outcome.ReadFault = new ≡ old
+IsOutcome input names old new outcome.WriteFault = IsCutShort input names old new
+IsOutcome input names old new outcome.NoMemory = new ≡ old
+IsOutcome input names old new outcome.TooLong = IsTooLong input × (new ≡ old)
 
 -- Nothing is said of a run that is done, and else the line of its outcome.
 abbrev pub IsReported : Known → Known → ℕ → ℕ → Outcome → Type 0

@@ -1,6 +1,6 @@
 -- What a run answers to its words and to the text of its project.
-use Rattle.std.specs.Prelude.{◌≡◌, ℕ, ◌<◌, ◌==◌, Bool, false, not, ◌&&◌, List, [], ◌∷◌, length, codes, Some, None, String}
-use Rattle.std.specs.List.{list_any}
+use Rattle.std.specs.Prelude.{◌≡◌, ℕ, ◌<◌, ◌==◌, Bool, false, not, ◌&&◌, if◌then◌else◌, List, [], ◌∷◌, length, codes, Some, None, String}
+use Rattle.std.specs.List.{list_any, slice_split}
 use Rattle.std.specs.Str.{bytes_eq}
 use Rattle.std.specs.String.{string_bytes}
 use Rattle.std.specs.declared.alloc.Global.{Global}
@@ -8,26 +8,39 @@ use Rattle.cfj_model.specs.declared.fault.FaultKind.{FaultKind}
 use Rattle.cfj_model.specs.Faults.{IsTextOf, IsFirstFault}
 use Rattle.cfj_model.specs.Print.{plain_printed}
 use Rattle.cfj_model.specs.ProductLines.{ProductLine}
+use Rattle.cfj_model.specs.Projection.{projected}
+use Rattle.cfj_model.specs.Selections.{Chosen}
 use Rattle.cide_io.specs.Known.{Known, appended, IsCut}
-use Rattle.cide_tool.specs.Lines.{refusal_line}
+use Rattle.cide_tool.specs.Lines.{refusal_line, names_line}
+use Rattle.feature_model.specs.declared.names.NameFault.{NameFault}
+use Rattle.feature_model.specs.NamedSelections.{IsSpelled, IsFirstBad}
 
 -- the word begins with `-`
 abbrev pub is_option : List ℕ → Bool
 is_option [] = false
 is_option (first ∷ rest) = first == 45
 
--- The words are `export`, the name of a project, which doesn't begin with `-`, and `.`, which names no feature.
+-- The words are `export`, the name of a project and a word that names features; neither of the two begins with `-`.
 abbrev pub is_export : List (String Global) → Bool
 is_export (command ∷ project ∷ names ∷ []) =
     bytes_eq (string_bytes command) (codes "export")
     && not (is_option (string_bytes project))
-    && bytes_eq (string_bytes names) (codes ".")
+    && not (is_option (string_bytes names))
 is_export _ = false
 
 -- the name of the project, the second word
 abbrev pub project_name : List (String Global) → List ℕ
 project_name (command ∷ project ∷ rest) = string_bytes project
 project_name _ = []
+
+-- the word that names features, the third
+abbrev pub names_word : List (String Global) → List ℕ
+names_word (command ∷ project ∷ names ∷ rest) = string_bytes names
+names_word _ = []
+
+-- the texts between the commas of such a word; `.` has none
+abbrev pub named_parts : List ℕ → List (List ℕ)
+named_parts word = if bytes_eq word (codes ".") then [] else slice_split (λ b. b == 44) word
 
 -- the most bytes in the text of a project
 abbrev pub most_bytes : ℕ
@@ -38,30 +51,54 @@ abbrev pub IsAllOf : Known → List ℕ → Type 0
 IsAllOf None text = Unit {0}
 IsAllOf (Some bytes) text = text ≡ bytes
 
--- The project's text stands for a product line, and the output gained its plain print.
-pub record IsExported (input old new : Known) : Type 0 where
+-- The project's text stands for this product line, and the word spells this selection of its features.
+pub record IsVariantOf (input : Known) (names : List ℕ) (line : ProductLine) (selection : Chosen) : Type 0 where
   pub text : List ℕ
-  pub line : ProductLine
   pub all : IsAllOf input text
   pub read : IsTextOf text line
-  pub printed : new ≡ appended old (plain_printed line.classes)
+  pub spelled : IsSpelled line.model.features (named_parts names) selection
 
--- The project's text stands for a product line, and the output gained a proper prefix of its plain print.
-pub record IsCutShort (input old new : Known) : Type 0 where
-  pub text : List ℕ
+-- what is printed of a product line under a selection
+abbrev pub variant_text : ProductLine → Chosen → List ℕ
+variant_text line selection = plain_printed (projected selection line).classes
+
+-- The output gained the plain print of the variant that the project's text and the word name.
+pub record IsExported (input : Known) (names : List ℕ) (old new : Known) : Type 0 where
   pub line : ProductLine
-  pub all : IsAllOf input text
-  pub read : IsTextOf text line
-  pub printed : IsCut old new (plain_printed line.classes)
+  pub selection : Chosen
+  pub variant : IsVariantOf input names line selection
+  pub printed : new ≡ appended old (variant_text line selection)
+
+-- The output gained a proper prefix of that.
+pub record IsCutShort (input : Known) (names : List ℕ) (old new : Known) : Type 0 where
+  pub line : ProductLine
+  pub selection : Chosen
+  pub variant : IsVariantOf input names line selection
+  pub printed : IsCut old new (variant_text line selection)
 
 -- The project's text has a first fault, which the line tells.
-pub record IsRefused (input : Known) (line : List ℕ) : Type 0 where
+pub record IsNoText (input : Known) (line : List ℕ) : Type 0 where
   pub text : List ℕ
   pub at : ℕ
   pub kind : FaultKind
   pub all : IsAllOf input text
   pub first : IsFirstFault text at kind
   pub told : line ≡ refusal_line at kind
+
+-- The project's text stands for a product line, and the line tells the first name of the word that is bad.
+pub record IsBadName (input : Known) (names line : List ℕ) : Type 0 where
+  pub text : List ℕ
+  pub project : ProductLine
+  pub fault : NameFault
+  pub all : IsAllOf input text
+  pub read : IsTextOf text project
+  pub first : IsFirstBad project.model.features (named_parts names) fault
+  pub told : line ≡ names_line (named_parts names) fault
+
+-- Why nothing is exported of a project that was read.
+pub data IsRefused (input : Known) (names line : List ℕ) : Type 0 where
+  no_text : IsNoText input line → IsRefused input names line
+  bad_name : IsBadName input names line → IsRefused input names line
 
 -- The project's text has more bytes than a text may have.
 pub record IsTooLong (input : Known) : Type 0 where

@@ -9,7 +9,7 @@ use cide_io::{Sink, put_all};
 pub enum Outcome {
     /// The command is done.
     Done,
-    /// The project's text isn't in the grammar; the line says where and why.
+    /// The project's text isn't in the grammar, or a name is bad; the line says which.
     Refused(String),
     /// The words aren't a command's.
     Usage,

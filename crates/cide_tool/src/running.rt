@@ -2,7 +2,7 @@ ghost use Rattle.std.specs.Prelude.{◌≡◌, ℕ, ◌≤◌, ◌↔◌, List, 
 ghost use Rattle.cide_io.specs.Faults.{Rose};
 ghost use Rattle.cide_tool.specs.Lines.{IsSaid, status_line};
 ghost use Rattle.cide_tool.specs.Outcomes.{IsOutcome};
-ghost use Rattle.cide_tool.specs.Running.{is_export, project_name, is_status, IsExported, IsCutShort, IsRefused, IsTooLong};
+ghost use Rattle.cide_tool.specs.Running.{is_export, project_name, names_word, is_status, IsExported, IsCutShort, IsRefused, IsTooLong};
 
 use crate::export::export;
 use crate::outcome::Outcome;
@@ -13,7 +13,7 @@ use std::alloc::{AllocGlobal, Global};
 /// Does what the words ask.
 fn work<R: Room, O: Sink>(alloc: Global, words: &[String], room: &mut R, out: &mut O) -> Outcome
     ensures text { IsOutcome
-        (R.input room.old (project_name words.now)) (O.held out.old) (O.held out.new) result }
+        (R.input room.old (project_name words.now)) (names_word words.now) (O.held out.old) (O.held out.new) result }
     ensures command { (result ≡ Outcome.Usage) ↔ (is_export words.now ≡ false) }
     ensures read { result ≡ Outcome.ReadFault → Rose (R.read_faults room.old) (R.read_faults room.new) }
     ensures write { result ≡ Outcome.WriteFault → Rose (O.faults out.old) (O.faults out.new) }
@@ -27,7 +27,7 @@ fn work<R: Room, O: Sink>(alloc: Global, words: &[String], room: &mut R, out: &m
     ensures writes { R.write_faults room.new ≡ R.write_faults room.old }
 {
     match exported(words) {
-        Some(name) => export(alloc, name.as_str(), room, out),
+        Some((name, names)) => export(alloc, name.as_str(), names.as_str(), room, out),
         None => Outcome::Usage,
     }
 }
@@ -42,12 +42,14 @@ pub fn run_plain<T: AllocGlobal, R: Room, O: Sink, E: Sink>(
     out: &mut O,
     err: &mut E,
 ) -> u8
-    // 0: the project's text stands for a product line, whose plain print `out` gained.
+    // 0: the project's text stands for a product line, the names spell a selection of its features, and `out` gained the
+    // plain print of that selection's variant.
     ensures done { result ≡ 0
-        → IsExported (R.input room.old (project_name words.now)) (O.held out.old) (O.held out.new) }
-    // 3: the project's text isn't in the grammar, and `err` was told of its first fault.
+        → IsExported (R.input room.old (project_name words.now)) (names_word words.now) (O.held out.old) (O.held out.new) }
+    // 3: the project's text isn't in the grammar, and `err` was told of its first fault; or it is, and `err` was told of the
+    // first bad name.
     ensures refused { result ≡ 3
-        → (line : List ℕ) × IsRefused (R.input room.old (project_name words.now)) line
+        → (line : List ℕ) × IsRefused (R.input room.old (project_name words.now)) (names_word words.now) line
         × IsSaid (E.held err.old) (E.held err.new) (E.faults err.old) (E.faults err.new) line }
     // 4: the words aren't an export.
     ensures usage { (result ≡ 4) ↔ (is_export words.now ≡ false) }
@@ -56,7 +58,7 @@ pub fn run_plain<T: AllocGlobal, R: Room, O: Sink, E: Sink>(
     // 6: `out` counted a fault, and gained a proper prefix of what it gains at 0.
     ensures write { result ≡ 6 → Rose (O.faults out.old) (O.faults out.new) }
     ensures cut { result ≡ 6
-        → IsCutShort (R.input room.old (project_name words.now)) (O.held out.old) (O.held out.new) }
+        → IsCutShort (R.input room.old (project_name words.now)) (names_word words.now) (O.held out.old) (O.held out.new) }
     // 11: the project's text is too long.
     ensures limit { result ≡ 11 → IsTooLong (R.input room.old (project_name words.now)) }
     // 7, want of memory, has no cause to tell, and there is no other status.
@@ -92,12 +94,14 @@ pub fn run<T: AllocGlobal, R: Room, O: Sink, E: Sink>(
     out: &mut O,
     err: &mut E,
 ) -> u8
-    // 0: the project's text stands for a product line, whose plain print `out` gained.
+    // 0: the project's text stands for a product line, the names spell a selection of its features, and `out` gained the
+    // plain print of that selection's variant.
     ensures done { result ≡ 0
-        → IsExported (R.input room.old (project_name words.now)) (O.held out.old) (O.held out.new) }
-    // 3: the project's text isn't in the grammar, and `err` was told of its first fault.
+        → IsExported (R.input room.old (project_name words.now)) (names_word words.now) (O.held out.old) (O.held out.new) }
+    // 3: the project's text isn't in the grammar, and `err` was told of its first fault; or it is, and `err` was told of the
+    // first bad name.
     ensures refused { result ≡ 3
-        → (line : List ℕ) × IsRefused (R.input room.old (project_name words.now)) line
+        → (line : List ℕ) × IsRefused (R.input room.old (project_name words.now)) (names_word words.now) line
         × IsSaid (E.held err.old) (E.held err.new) (E.faults err.old) (E.faults err.new) line }
     // 4: the words aren't an export.
     ensures usage { (result ≡ 4) ↔ (is_export words.now ≡ false) }
@@ -106,7 +110,7 @@ pub fn run<T: AllocGlobal, R: Room, O: Sink, E: Sink>(
     // 6: `out` counted a fault, and gained a proper prefix of what it gains at 0.
     ensures write { result ≡ 6 → Rose (O.faults out.old) (O.faults out.new) }
     ensures cut { result ≡ 6
-        → IsCutShort (R.input room.old (project_name words.now)) (O.held out.old) (O.held out.new) }
+        → IsCutShort (R.input room.old (project_name words.now)) (names_word words.now) (O.held out.old) (O.held out.new) }
     // 11: the project's text is too long.
     ensures limit { result ≡ 11 → IsTooLong (R.input room.old (project_name words.now)) }
     // 7, want of memory, has no cause to tell, and there is no other status.

@@ -1,3 +1,5 @@
+mod variants;
+
 use cide_io::{HostRoom, MemRoom, MemSink, Room, StdErrSink, StdOutSink, put_all, read_all};
 use cide_tool::run;
 use std::alloc::{AllocError, Global};
@@ -314,12 +316,14 @@ const USAGE: &str = "usage: cide check|export|view|script|serve|audit|certify|ve
 
 #[test]
 fn tells_the_usage_of_other_words(rt: HostRuntime) -> Result<(), Fail> {
-    let commands: [&[&str]; 7] = [
+    let commands: [&[&str]; 9] = [
         &["check", "T", "."],
         &["export"],
         &["export", "T"],
         &["export", "T", ".", "."],
         &["export", "-x", "."],
+        &["export", "T", "-x"],
+        &["export", "T", "-"],
         &[],
         &["exports", "T", "."],
     ];

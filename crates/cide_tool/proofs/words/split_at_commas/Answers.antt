@@ -1,0 +1,10 @@
+use Rattle.std.proofs.Common.{lit<}
+use Rattle.std.proofs.lemmas.Iterator.Consumers.{map_from_collect}
+use Rattle.std.proofs.lemmas.Iterator.Splits.{YieldsList-from_str_split}
+use Rattle.cide_tool.proofs.words.split_at_commas.Goals as goal
+
+-- a comma is one byte, so the texts between are those of the bytes
+pub returns : goal.returns
+returns c =
+    let split = c.split.ensures in
+    map_from_collect _ c.collect.ensures.ran (YieldsList-from_str_split 44 c.args.word.now (lit< tt) split.text split.has_more split.pattern)

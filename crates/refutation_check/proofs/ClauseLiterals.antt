@@ -1,11 +1,12 @@
 -- The literals of clauses over features.
-use Rattle.std.proofs.Common.{◌≡◌, ℕ, zero, suc, ◌+◌, ◌-◌, ◌<◌, ◌≤◌, ◌⊎◌, inl, inr, Bool, true, false, List, ◌++◌, refl, sym, ◌∙◌, ap, arith, append_assoc, append-nil, Some}
+use Rattle.std.proofs.Common.{◌≡◌, ◌≢◌, eqb, ℕ, zero, suc, ◌+◌, ◌-◌, ◌<◌, ◌≤◌, ◌⊎◌, inl, inr, Bool, true, false, List, ◌++◌, refl, sym, ◌∙◌, ap, arith, append_assoc, append-nil, Some}
 use Rattle.cfj_model.specs.declared.clauses.Literal.{Literal}
 use Rattle.cfj_model.specs.Selections.{has_bit}
 use Rattle.cfj_model.specs.Sides.{Sides}
 use Rattle.cfj_model.specs.UnitClauses.{Has}
 use Rattle.cfj_model.specs.Logs.{literal_if, literals_from, literals}
-use Rattle.refutation_check.proofs.Members.{has_split, has_none, has_one}
+use Rattle.refutation_check.proofs.Members.{has_left, has_right, has_split, has_none, has_one}
+use Rattle.std.proofs.lemmas.Bool.Decides.{eqb_tells}
 
 literals_step : (c : Sides) (f : ℕ) → f < 128 → literals_from c (128 - f) f ≡ literal_if (has_bit c.on f) f true ++ (literal_if (has_bit c.off f) f false ++ literals_from c (128 - (f + 1)) (f + 1))
 literals_step c f lt = let e : 128 - f ≡ suc (128 - (f + 1)) = omega arith in ap (λ k. literals_from c k f) e
@@ -74,3 +75,27 @@ from_has c (suc n) f l h = go (λ k. from_has c n (f + 1) l k) (has_split (liter
 pub literals_has : (c : Sides) (l : Literal) → Has (literals c) l → (l.var < 128) × (has_bit (side c l.on) l.var ≡ true)
 unfolding literals
 literals_has c l h = let r = from_has c 128 0 l h in (r.1, r.2)
+
+from_in : (c : Sides) (n f x : ℕ) (on : Bool) → f ≤ x → x < f + n → has_bit (side c on) x ≡ true → Has (literals_from c n f) (record { var = x; on = on })
+from_in c zero f x on le lt bit = absurd (omega arith)
+from_in c (suc n) f x on le lt bit = go on bit (eqb_tells x f) (λ later. from_in c n (f + 1) x on later (omega arith) bit)
+  where
+    rest : List Literal
+    rest = literals_from c n (f + 1)
+
+    first : (b : Bool) → has_bit (side c b) x ≡ true → x ≡ f → Has (literal_if (has_bit (side c b) f) f b) (record { var = x; on = b })
+    first b t e = literal_if_has (has_bit (side c b) f) f b (record { var = x; on = b }) (ap (has_bit (side c b)) (sym e) ∙ t) e refl
+
+    place : (b : Bool) → Has (literal_if (has_bit (side c b) f) f b) (record { var = x; on = b }) → Has (literals_from c (suc n) f) (record { var = x; on = b })
+    place true h = has_left (literal_if (has_bit c.on f) f true) (literal_if (has_bit c.off f) f false ++ rest) (record { var = x; on = true }) h
+    place false h = has_right (literal_if (has_bit c.on f) f true) (literal_if (has_bit c.off f) f false ++ rest) (record { var = x; on = false }) (has_left (literal_if (has_bit c.off f) f false) rest (record { var = x; on = false }) h)
+
+    go : (b : Bool) → has_bit (side c b) x ≡ true → ((eqb x f ≡ true) × (x ≡ f)) ⊎ ((eqb x f ≡ false) × (x ≢ f)) → (f + 1 ≤ x → Has rest (record { var = x; on = b })) → Has (literals_from c (suc n) f) (record { var = x; on = b })
+    go b t (inl e) ih = place b (first b t e.1)
+    go b t (inr e) ih = let ne = e.1 in has_right (literal_if (has_bit c.on f) f true) (literal_if (has_bit c.off f) f false ++ rest) (record { var = x; on = b })
+        (has_right (literal_if (has_bit c.off f) f false) rest (record { var = x; on = b }) (ih (omega (arith, ne))))
+
+-- a bit of a side is a literal of the clause
+pub literals_in : (c : Sides) (x : ℕ) (on : Bool) → x < 128 → has_bit (side c on) x ≡ true → Has (literals c) (record { var = x; on = on })
+unfolding literals
+literals_in c x on lt bit = from_in c 128 0 x on (omega arith) (omega arith) bit

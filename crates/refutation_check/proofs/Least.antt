@@ -38,7 +38,7 @@ refutation_holds_empty clauses log r = has_any is_empty log empty_clause r.empty
 
 -- ---- selections and models
 
-fixed_value : (n : ℕ) (p : List Bool) (x : ℕ) (b : Bool) → value_of (fixed n p) x ≡ Some b → slice_get p x ≡ Some b
+pub fixed_value : (n : ℕ) (p : List Bool) (x : ℕ) (b : Bool) → value_of (fixed n p) x ≡ Some b → slice_get p x ≡ Some b
 fixed_value zero p x b e = absurd (let no : ⊥ = cc e in no)
 fixed_value (suc n) [] zero b e = absurd (let no : ⊥ = cc e in no)
 fixed_value (suc n) [] (suc x) b e = fixed_value n [] x b e

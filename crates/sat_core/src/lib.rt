@@ -1,0 +1,9 @@
+//! A solver with a log: the least selection that extends to a model of clauses, or a refutation, each with its proof.
+#![tactic(auto)]
+
+mod answer;
+mod denial;
+mod search;
+
+pub use answer::Answer;
+pub use search::solve;

@@ -16,7 +16,7 @@ pub fn is_known(before: &[Clause], clause: &Clause) -> bool
 }
 
 /// Whether one of the clauses is empty.
-pub fn holds_empty(log: &[Clause]) -> bool
+pub(crate) fn holds_empty(log: &[Clause]) -> bool
     ensures { result ≡ list_any is_empty log.now }
 {
     log.iter().any(|clause| clause.is_empty())

@@ -83,7 +83,7 @@ fn are_forced(
 }
 
 /// Whether the selection with these choices extends to a model.
-pub fn extends(
+pub(crate) fn extends(
     alloc: Global,
     clauses: &Clauses,
     choices: &[bool],

@@ -58,7 +58,11 @@ pub(crate) fn assumed(
 }
 
 /// The values in which the first variables have these values, and the others none.
-pub fn fixed(alloc: Global, vars: u64, prefix: &[bool]) -> Result<Vec<Option<bool>>, AllocError>
+pub(crate) fn fixed(
+    alloc: Global,
+    vars: u64,
+    prefix: &[bool],
+) -> Result<Vec<Option<bool>>, AllocError>
     requires { length prefix.now ≤ vars }
     ensures { IfOk result (λ values. values.items ≡ fixed vars prefix.now) }
 {

@@ -108,7 +108,7 @@ fn go_through_both(
 ///
 /// In which order units are taken makes no difference to the answer (unit resolution is confluent: Dowling and Gallier,
 /// Journal of Logic Programming 1(3), 1984).
-pub fn propagate(
+pub(crate) fn propagate(
     values: &mut [Option<bool>],
     clauses: &[Items<Literal>],
     learned: &[Items<Literal>],

@@ -1,2 +1,3 @@
+pub mod FeatureBits
 mod Reserved
 pub mod SetBits

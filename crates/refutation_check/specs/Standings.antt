@@ -35,7 +35,7 @@ IsOpen vs c =
     ((l : Literal) × Has c l × (value_of vs l.var ≡ Some l.on))
     ⊎ ((l : Literal) × (m : Literal) × Has c l × Has c m × IsUnvalued vs l × IsUnvalued vs m × (l ≡ m → ⊥))
 
--- the clause is open
+-- each clause is open
 abbrev pub AreOpen : List (List Literal) → Values → Type 0
 AreOpen cs vs = (c : List Literal) → Has cs c → IsOpen vs c
 

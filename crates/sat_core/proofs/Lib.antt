@@ -1,4 +1,3 @@
-pub mod Bits
 pub mod Denying
 pub mod Forced
 pub mod LeastSelection

@@ -21,7 +21,7 @@ use Rattle.refutation_check.proofs.ClauseLiterals.{side, literals_has, literals_
 use Rattle.refutation_check.proofs.Accepting.{accepted_push}
 use Rattle.sat_core.specs.Denials.{is_value, IsDenial, IsDenied}
 use Rattle.sat_core.specs.States.{IsLearned, IsConflict}
-use Rattle.sat_core.proofs.Bits.{subset_has}
+use Rattle.cfj_model.proofs.FeatureBits.{subset_has}
 
 -- ---- the values that a denial assumes
 

@@ -100,7 +100,7 @@ none_earlier clauses log s t same all forced e x =
 pub least_found : (clauses : Clauses) (budget : ℕ) (log : List Sides) (learned : List (List Literal)) (prefix : List Bool) (back : Bool) (s : Chosen) → AreWellFormed clauses → AreSettledByFeatures clauses → IsState clauses budget log learned prefix back →
     s.features ≡ clauses.features → choices s ≡ prefix → (IsConflict clauses log prefix → ⊥) → IsLeastThatExtends clauses s × IsProofOfLeast clauses log s × (length log ≤ budget)
 least_found clauses budget log learned prefix back s formed settled state same are clear = (
-  record { extends = extends; least = λ t e x. none_earlier clauses log s t same state.known.accepted forced e x },
+  record { features = same; extends = extends; least = λ t e x. none_earlier clauses log s t same state.known.accepted forced e x },
   record { accepted = state.known.accepted; extends = extends; forced = forced },
   state.within,
 )

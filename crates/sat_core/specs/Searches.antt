@@ -8,8 +8,9 @@ use Rattle.cfj_model.specs.Logs.{ExtendsToModel, IsAccepted, IsRefutation, IsPro
 use Rattle.sat_core.specs.declared.answer.Answer.{Answer}
 use Rattle.sat_core.specs.declared.answer.Answer.TheVariants.{Refuted, Least, Spent}
 
--- the selection extends to a model, and no earlier one does
+-- the selection is one of the clauses' features and extends to a model, and no earlier one does
 pub record IsLeastThatExtends (clauses : Clauses) (s : Chosen) : Type 0 where
+  pub features : s.features ≡ clauses.features
   pub extends : ExtendsToModel clauses s
   pub least : (t : Chosen) → IsEarlier t s → ExtendsToModel clauses t → ⊥
 

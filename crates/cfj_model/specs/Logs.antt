@@ -1,5 +1,5 @@
 -- Logs of clauses that follow by unit clauses, after reverse unit propagation (Goldberg and Novikov, DATE 2003).
-use Rattle.std.specs.Prelude.{◌≡◌, ℕ, zero, suc, ◌+◌, ◌<◌, ◌≤◌, Bool, true, false, ◌⊎◌, if◌then◌else◌, List, [], ◌∷◌, ◌++◌, take, map, replicate, slice_get, Option, Some, None, All, bit_and}
+use Rattle.std.specs.Prelude.{◌≡◌, ℕ, zero, suc, ◌+◌, ◌<◌, ◌≤◌, Bool, true, false, ◌⊎◌, if◌then◌else◌, List, [], ◌∷◌, ◌++◌, take, map, replicate, slice_get, Some, None, All, bit_and}
 use Rattle.cfj_model.specs.declared.clauses.Literal.{Literal}
 use Rattle.cfj_model.specs.declared.clauses.Clauses.{Clauses}
 use Rattle.cfj_model.specs.Selections.{has_bit, Chosen, is_on, choices}

@@ -1,5 +1,5 @@
 -- Logs that are accepted.
-use Rattle.std.proofs.Common.{◌≡◌, ℕ, ◌+◌, ◌^◌, ◌<◌, ◌≤◌, ◌⊎◌, inl, inr, Bool, true, false, ◌==◌, ◌&&◌, nat_lt, List, [], ◌∷◌, ◌++◌, length, get_or, take, map, Some, slice_get, refl, sym, ◌∙◌, ap, subst, arith, length-append, bit_and}
+use Rattle.std.proofs.Common.{◌≡◌, ℕ, ◌+◌, ◌^◌, ◌<◌, ◌≤◌, ◌⊎◌, inl, inr, Bool, true, false, ◌==◌, nat_lt, List, [], ◌∷◌, ◌++◌, length, get_or, take, map, Some, slice_get, refl, sym, ◌∙◌, ap, subst, arith, length-append, bit_and}
 use Rattle.std.specs.Prelude.{All}
 use Rattle.std.specs.List.{list_any}
 use Rattle.std.proofs.lemmas.Bool.{ltb-true}
@@ -13,17 +13,9 @@ use Rattle.cfj_model.specs.Selections.{has_bit}
 use Rattle.cfj_model.specs.Sides.{Sides, is_over, is_within}
 use Rattle.cfj_model.specs.UnitClauses.{Has}
 use Rattle.cfj_model.specs.Logs.{AreBelow, AreWellFormed, literals, premises, Follows, IsEntry, IsAccepted}
-use Rattle.refutation_check.proofs.Members.{lt_or_ge, all_from, has_source, any_has, none_has, slice_get_left, slice_get_end}
+use Rattle.refutation_check.proofs.Members.{lt_or_ge, all_from, has_source, any_has, none_has, slice_get_left, slice_get_end, both_true}
 use Rattle.refutation_check.proofs.ClauseLiterals.{side, literals_has}
 use Rattle.refutation_check.proofs.Passes.{take_next}
-
-and_left : (a b : Bool) → a && b ≡ true → a ≡ true
-and_left true b e = refl
-and_left false b e = absurd (let no : ⊥ = cc e in no)
-
-and_right : (a b : Bool) → a && b ≡ true → b ≡ true
-and_right true b e = e
-and_right false b e = absurd (let no : ⊥ = cc e in no)
 
 -- ---- literals of clauses over features
 
@@ -38,8 +30,8 @@ pub over_literal : (features : ℕ) (c : Sides) (l : Literal) → is_over featur
 over_literal features c l over h = go l.on (literals_has c l h).1
   where
     go : (on : Bool) → has_bit (side c on) l.var ≡ true → l.var < features
-    go true bit = bit_below c.on features l.var (ltb-true c.on (2 ^ features) (and_left (nat_lt c.on (2 ^ features)) (nat_lt c.off (2 ^ features)) over)) bit
-    go false bit = bit_below c.off features l.var (ltb-true c.off (2 ^ features) (and_right (nat_lt c.on (2 ^ features)) (nat_lt c.off (2 ^ features)) over)) bit
+    go true bit = bit_below c.on features l.var (ltb-true c.on (2 ^ features) (both_true (nat_lt c.on (2 ^ features)) (nat_lt c.off (2 ^ features)) over).0) bit
+    go false bit = bit_below c.off features l.var (ltb-true c.off (2 ^ features) (both_true (nat_lt c.on (2 ^ features)) (nat_lt c.off (2 ^ features)) over).1) bit
 
 pub over_below : (features vars : ℕ) (c : Sides) → features ≤ vars → is_over features c ≡ true → AreBelow vars (literals c)
 over_below features vars c le over = all_from (λ l. l.var < vars) (literals c) (λ l h. (let lt = over_literal features c l over h in omega (arith, lt, le)))

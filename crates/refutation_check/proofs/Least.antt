@@ -1,5 +1,5 @@
 -- Refutations and proofs of least.
-use Rattle.std.proofs.Common.{◌≡◌, ℕ, zero, suc, ◌+◌, ◌<◌, ◌⊎◌, inl, inr, Bool, true, false, ◌==◌, ◌&&◌, List, [], ◌∷◌, ◌++◌, length, map, Option, Some, None, slice_get, refl, sym, ◌∙◌, ap, subst, arith, append-nil, Result, Ok, Err, is_some}
+use Rattle.std.proofs.Common.{◌≡◌, ℕ, zero, suc, ◌+◌, ◌<◌, ◌⊎◌, inl, inr, Bool, true, ◌==◌, List, [], ◌∷◌, ◌++◌, length, map, Option, Some, None, slice_get, refl, sym, ◌∙◌, ap, subst, arith, append-nil, Result, Ok, Err, is_some}
 use Rattle.std.specs.Prelude.{IfSome, IfNone, IfOk, IsTrue}
 use Rattle.std.specs.List.{list_any}
 use Rattle.std.proofs.lemmas.Bool.{eqb-true}
@@ -10,16 +10,12 @@ use Rattle.cfj_model.specs.Selections.{Chosen, is_on, choices}
 use Rattle.cfj_model.specs.Sides.{Sides, empty_clause, is_empty}
 use Rattle.cfj_model.specs.UnitClauses.{Has, Values, value_of, Leads}
 use Rattle.cfj_model.specs.Logs.{Assignment, AreWellFormed, ExtendsToModel, literals, premises, fixed, IsAccepted, IsRefutation, AreForced, Completes, AreSettledByFeatures, IsProofOfLeast}
-use Rattle.refutation_check.proofs.Members.{any_has, has_any}
+use Rattle.refutation_check.proofs.Members.{any_has, has_any, both_true}
 use Rattle.refutation_check.proofs.UnitSteps.{reaches_within}
 use Rattle.refutation_check.proofs.Consequences.{Agrees, sound}
 use Rattle.refutation_check.proofs.FirstValues.{fixed_at, choices_from_at, choices_from_length}
 
 -- ---- the empty clause
-
-both_true : (a b : Bool) → a && b ≡ true → (a ≡ true) × (b ≡ true)
-both_true true b e = (refl, e)
-both_true false b e = absurd (let no : ⊥ = cc e in no)
 
 empty_is : (c : Sides) → is_empty c ≡ true → c ≡ empty_clause
 empty_is c e =

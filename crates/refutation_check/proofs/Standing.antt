@@ -8,7 +8,7 @@ use Rattle.refutation_check.specs.declared.units.Standing.{Standing}
 use Rattle.refutation_check.specs.declared.units.Standing.TheVariants.{Open, Falsified, Unit as UnitOf}
 use Rattle.cfj_model.specs.UnitClauses.{Has, Values, value_of, IsFalse, IsUnvalued, with_true, IsFalsified, IsUnit}
 use Rattle.refutation_check.specs.Standings.{bool_eq, literal_eq, joined, standing_from, IsOpen, Shows, unvalued}
-use Rattle.refutation_check.proofs.Members.{has_left, has_right, has_split, has_one, has_none}
+use Rattle.refutation_check.proofs.Members.{has_left, has_right, has_split, has_one, has_none, both_true}
 
 bool_eq_true : (a b : Bool) → bool_eq a b ≡ true → a ≡ b
 bool_eq_true true true e = refl
@@ -26,13 +26,9 @@ bool_eq_same : (b : Bool) → bool_eq b b ≡ true
 bool_eq_same true = refl
 bool_eq_same false = refl
 
-and_both : (a b : Bool) → a && b ≡ true → (a ≡ true) × (b ≡ true)
-and_both true b e = (refl, e)
-and_both false b e = absurd (let no : ⊥ = cc e in no)
-
 literal_eq_true : (l m : Literal) → literal_eq l m ≡ true → l ≡ m
 literal_eq_true l m e =
-    let h = and_both (l.var == m.var) (bool_eq l.on m.on) e in
+    let h = both_true (l.var == m.var) (bool_eq l.on m.on) e in
     let p : l.var ≡ m.var = eqb-true l.var m.var h.0 in
     let q : l.on ≡ m.on = bool_eq_true l.on m.on h.1 in
     λ i. record { var = p i; on = q i }

@@ -71,7 +71,7 @@ at_variable n (l ∷ c) = go (eqb_tells l.var n) (at_variable n c)
     go (inr e) (inl r) = inl (r.0, (suc r.1.0, r.1.1), r.2)
     go (inr e) (inr all) = inr (λ m h. each e.1 all m h)
 
-not_twice : (b : Bool) → not (not b) ≡ b
+pub not_twice : (b : Bool) → not (not b) ≡ b
 not_twice true = refl
 not_twice false = refl
 

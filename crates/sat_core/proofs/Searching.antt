@@ -14,13 +14,14 @@ use Rattle.cfj_model.specs.Selections.{has_bit, is_subset}
 use Rattle.cfj_model.specs.Sides.{Sides, empty_clause, is_empty, is_over, is_within}
 use Rattle.cfj_model.specs.UnitClauses.{Has, Values, value_of, with_false, Leads}
 use Rattle.cfj_model.specs.Logs.{AreWellFormed, literals, premises, assumed_from, assumed, fixed, IsEntry}
-use Rattle.refutation_check.proofs.Members.{lt_or_ge, has_left, has_right, has_none, none_has, any_has, has_any}
+use Rattle.refutation_check.proofs.Members.{lt_or_ge, has_left, has_right, has_none, none_has, any_has, has_any, both_true}
 use Rattle.refutation_check.proofs.UnitSteps.{set_cases}
 use Rattle.refutation_check.proofs.FirstValues.{fixed_none, fixed_length, fixed_at, fixed_past, assumed_length, set_length}
 use Rattle.refutation_check.proofs.ClauseLiterals.{side, literals_has, literals_in}
 use Rattle.refutation_check.proofs.Accepting.{accepted_push}
 use Rattle.sat_core.specs.Denials.{is_value, IsDenial, IsDenied}
 use Rattle.sat_core.specs.States.{IsLearned, IsConflict}
+use Rattle.sat_core.proofs.Forced.{not_twice}
 use Rattle.cfj_model.proofs.FeatureBits.{subset_has}
 
 -- ---- the values that a denial assumes
@@ -43,16 +44,12 @@ denial_denies c p d m h = go m.on refl (literals_has c m h).1
     go true e bit = value_is false (slice_get p m.var) (sym (d.on m.var) ∙ bit) ∙ ap (λ b. Some (not b)) (sym e)
     go false e bit = value_is true (slice_get p m.var) (sym (d.off m.var) ∙ bit) ∙ ap (λ b. Some (not b)) (sym e)
 
-both_parts : (a b : Bool) → a && b ≡ true → (a ≡ true) × (b ≡ true)
-both_parts true b e = (refl, e)
-both_parts false b e = absurd (let bad : ⊥ = cc e in bad)
-
 -- so is each literal of a clause within the denial
 pub within_denies : (d c : Sides) (p : List Bool) → is_within d c ≡ true → IsDenial c p → Denies (literals d) p
 within_denies d c p within denial m h = go m.on refl (literals_has d m h).1
   where
     parts : (is_subset d.on c.on ≡ true) × (is_subset d.off c.off ≡ true)
-    parts = both_parts (is_subset d.on c.on) (is_subset d.off c.off) within
+    parts = both_true (is_subset d.on c.on) (is_subset d.off c.off) within
 
     go : (on : Bool) → m.on ≡ on → has_bit (side d on) m.var ≡ true → slice_get p m.var ≡ Some (not m.on)
     go true e bit = value_is false (slice_get p m.var) (sym (denial.on m.var) ∙ subset_has d.on c.on m.var parts.0 bit) ∙ ap (λ b. Some (not b)) (sym e)
@@ -97,10 +94,6 @@ assumed_has (l ∷ c) vs p m denies (suc k, e) lt =
     let n = set_length vs l.var (Some (not l.on)) in
     assumed_has c (with_false vs l) p m (λ d h. denies d (suc h.0, h.1)) (k, e) (omega (arith, n, lt))
 
-twice : (b : Bool) → not (not b) ≡ b
-twice true = refl
-twice false = refl
-
 denial_side : (c : Sides) (p : List Bool) (x : ℕ) (b : Bool) → IsDenial c p → slice_get p x ≡ Some b → has_bit (side c (not b)) x ≡ true
 denial_side c p x true d e = d.off x ∙ ap (is_value true) e
 denial_side c p x false d e = d.on x ∙ ap (is_value false) e
@@ -122,7 +115,7 @@ assumed_fixed vars c p d few short = same_values (assumed vars (literals c)) (fi
     inside x b lt e =
         let h = literals_in c x (not b) (omega (arith, lt, few)) (denial_side c p x b d e) in
         assumed_has (literals c) none p (record { var = x; on = not b }) denies h (omega (arith, none_length, lt, short))
-        ∙ ap Some (twice b) ∙ sym (fixed_at vars p x b e (omega (arith, lt, short)))
+        ∙ ap Some (not_twice b) ∙ sym (fixed_at vars p x b e (omega (arith, lt, short)))
 
     other : (x : ℕ) → length p ≤ x → (m : Literal) → Has (literals c) m → m.var ≢ x
     other x le m h e = let within = slice_get_within p m.var (not m.on) (denies m h) in omega (arith, within, le, e)
@@ -153,7 +146,7 @@ empty_literals = refl
 
 within_empty : (d : Sides) → is_within d empty_clause ≡ true → is_empty d ≡ true
 within_empty d e =
-    let h = both_parts (is_subset d.on 0) (is_subset d.off 0) e in
+    let h = both_true (is_subset d.on 0) (is_subset d.off 0) e in
     let p : bit_and d.on 0 ≡ d.on = eqb-true (bit_and d.on 0) d.on h.0 in
     let q : bit_and d.off 0 ≡ d.off = eqb-true (bit_and d.off 0) d.off h.1 in
     let on : d.on ≡ 0 = sym p ∙ and_zero_r d.on in
@@ -190,7 +183,7 @@ denial_some c p d lt = go (is_empty c) refl
     go : (b : Bool) → is_empty c ≡ b → is_empty c ≡ false
     go false e = e
     go true e =
-        let h = both_parts (c.on == 0) (c.off == 0) e in
+        let h = both_true (c.on == 0) (c.off == 0) e in
         absurd (let bad : true ≡ false = sym (denial_side c p 0 (get_or p 0 false) d at) ∙ none (not (get_or p 0 false)) (eqb-true c.on 0 h.0) (eqb-true c.off 0 h.1) in cc bad)
 
 plain_push : (log : List Sides) (c : Sides) → list_any is_empty log ≡ false → is_empty c ≡ false → list_any is_empty (log ++ c ∷ []) ≡ false

@@ -1,3 +1,4 @@
 pub mod Identifiers
+pub mod FeatureBits
 mod Reserved
 pub mod SetBits

@@ -1,1 +1,2 @@
+pub mod FormulaCases
 mod Reserved

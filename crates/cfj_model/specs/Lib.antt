@@ -1,10 +1,13 @@
 pub mod Characters
 pub mod FaultTexts
 pub mod Faults
+pub mod Formulas
 pub mod Grammar
 pub mod Lexemes
 pub mod Names
 pub mod Print
 pub mod ProductLines
 pub mod Roles
+pub mod Selections
 pub mod Tokens
+pub mod formers

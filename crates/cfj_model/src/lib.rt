@@ -5,22 +5,28 @@
 //! text, and the printed form.
 #![tactic(auto)]
 
+mod boxed;
 mod character;
 mod class;
 mod colors;
 mod fault;
 mod feature_model;
+mod formula;
 mod items;
 mod name;
 mod project;
+mod selection;
 mod text;
 
+pub use boxed::Boxed;
 pub use character::split_first;
 pub use class::{Class, Constructor, Field, Param, Sent};
 pub use colors::Colors;
 pub use fault::{FaultKind, LimitKind, ParseFault};
 pub use feature_model::FeatureModel;
+pub use formula::Formula;
 pub use items::Items;
 pub use name::{MOST_NAME_BYTES, Name, continues_word, is_identifier, is_reserved, starts_word};
 pub use project::Project;
+pub use selection::Selection;
 pub use text::Text;

@@ -1,2 +1,3 @@
 pub mod FormulaCases
 mod Reserved
+pub mod SetBits

@@ -4,10 +4,13 @@ pub mod Faults
 pub mod Formulas
 pub mod Grammar
 pub mod Lexemes
+pub mod Logs
 pub mod Names
 pub mod Print
 pub mod ProductLines
 pub mod Roles
 pub mod Selections
+pub mod Sides
 pub mod Tokens
+pub mod UnitClauses
 pub mod formers

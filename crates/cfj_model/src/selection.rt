@@ -1,8 +1,11 @@
-ghost use Rattle.std.specs.Prelude.{◌≡◌, ℕ, ◌^◌, ◌<◌, ◌≤◌, ◌↔◌, IsTrue, IsBitSet, bit_or};
+ghost use Rattle.std.specs.Prelude.{◌≡◌, ℕ, ◌^◌, ◌<◌, ◌≤◌, ◌↔◌, ◌≢◌, IsTrue, IsBitSet, bit_or, true};
+ghost use Rattle.cfj_model.specs.Selections.{is_on};
 
 use std::marker::Model;
 
-/// A selection of the features of a model: how many features there are, at most 128, and the set of selected ones, in one word.
+/// The features of a model that a variant takes, in one word.
+///
+/// Contracts see it as the model's number of features, and the number whose bits are the selected ones.
 #[derive(Clone, Copy, Debug, PartialEq, Eq)]
 pub struct Selection {
     features: u8,
@@ -10,20 +13,20 @@ pub struct Selection {
 }
 
 impl Model for Selection {
-    ghost use Rattle.std.specs.Prelude.{ℕ, ◌^◌, ◌<◌, ◌≤◌};
+    ghost use Rattle.std.specs.Prelude.{◌<◌, ◌≤◌, ◌^◌};
     ghost use Rattle.cfj_model.specs.Selections.{Chosen};
 
     ghost Value = { Chosen };
 
     ghost view = { λ s. record { features = s.features; on = s.bits } };
 
-    ghost invariant = { λ s. (s.features ≤ 128) × (s.bits < 2 ^ s.features) };
+    ghost inverse = { λ c. record { features = c.features; bits = c.on } };
 
-    ghost inverse = { λ v. record { features = v.features; bits = v.on } };
+    ghost invariant = { λ s. (s.features ≤ 128) × (s.bits < 2 ^ s.features) };
 }
 
 impl Selection {
-    /// No feature selected, of so many.
+    /// No feature of so many is selected.
     pub fn none(features: u8) -> Selection
         requires { features ≤ 128 }
         ensures { result ≡ record { features = features; on = 0 } }
@@ -45,8 +48,18 @@ impl Selection {
     /// Whether this feature is selected.
     pub fn has(&self, feature: u8) -> bool
         requires { feature < self.now.features }
-        ensures { IsTrue result ↔ IsBitSet self.now.on feature }
+        ensures selected { result ≡ is_on self.now feature }
+        ensures bit { IsTrue result ↔ IsBitSet self.now.on feature }
     {
         self.bits & (1 << feature) != 0
+    }
+
+    /// The model's number of features.
+    pub fn features(&self) -> u8
+        ensures number { result ≡ self.now.features }
+        ensures few { self.now.features ≤ 128 }
+        ensures within { self.now.on < 2 ^ self.now.features }
+    {
+        self.features
     }
 }

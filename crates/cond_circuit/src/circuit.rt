@@ -1,4 +1,4 @@
-ghost use Rattle.std.specs.Prelude.{◌≡◌, ℕ, ◌<◌, ◌≤◌, [], ◌∷◌, length, IfOk, OnErr, IsTrue, Some, not, ◌&&◌, ◌||◌, slice_get, if◌then◌else◌};
+ghost use Rattle.std.specs.Prelude.{◌≡◌, ℕ, ◌<◌, ◌≤◌, ◌^◌, [], ◌∷◌, length, IfOk, OnErr, IsTrue, Some, not, ◌&&◌, ◌||◌, slice_get, if◌then◌else◌};
 ghost use Rattle.cfj_model.specs.Formulas.{truth, is_over};
 ghost use Rattle.cfj_model.specs.Selections.{is_on};
 ghost use Rattle.cond_circuit.specs.Folding as fold;
@@ -70,6 +70,14 @@ impl Circuit {
     {
         let _index = &self.index;
         self.features
+    }
+
+    /// The number of gates, which are numbered from 0.
+    pub fn gates(&self) -> u64
+        ensures gates { result ≡ length self.now.parts }
+        ensures few { length self.now.parts < 2 ^ 62 }
+    {
+        self.parts.as_slice().len() as u64
     }
 
     /// The kind and the operands of a gate.

@@ -4,5 +4,8 @@
 //! `specs/GateClauses.antt` says which and in which order.
 #![tactic(auto)]
 
+mod gate;
 mod literals;
-mod reached;
+mod marks;
+
+pub use gate::clauses_of;

@@ -1,4 +1,4 @@
-ghost use Rattle.std.specs.Prelude.{◌≡◌, ◌∷◌, [], ◌++◌, ◌<◌, length, IfOk, OnOk, slice_index_or, true, false, not};
+ghost use Rattle.std.specs.Prelude.{if◌then◌else◌, ◌&&◌, ◌≡◌, ◌∷◌, [], ◌++◌, ◌<◌, length, IfOk, OnOk, slice_index_or, true, false, not};
 ghost use Rattle.cnf_form.specs.GateClauses as spec;
 ghost use Rattle.cnf_form.specs.Reaching.{AreBelow};
 
@@ -89,5 +89,44 @@ pub fn add_part(
             variables[left as usize],
             variables[right as usize],
         ),
+    }
+}
+
+/// Adds the clauses of a gate with this variable and part, if it is reached.
+pub fn add_gate(
+    alloc: Global,
+    list: &mut Vec<Items<Literal>>,
+    reached: bool,
+    variables: &[u64],
+    var: u64,
+    part: Part,
+) -> Result<(), AllocError>
+    requires { AreBelow (length variables.now) part }
+    ensures { OnOk result (list.new.items ≡ list.old.items ++ (if reached then spec.part_clauses (λ a. slice_index_or variables.now a 0) var part else [])) }
+{
+    if reached {
+        add_part(alloc, list, variables, var, part)
+    } else {
+        Ok(())
+    }
+}
+
+/// The variable of a gate with this part, where so many variables stand before it.
+pub fn variable(part: Part, before: u64) -> u64
+    ensures { result ≡ spec.variable part before }
+{
+    match part {
+        Part::Feat(feature) => u64::from(feature),
+        Part::Zero | Part::One | Part::Not(_) | Part::And(_, _) | Part::Or(_, _) => before,
+    }
+}
+
+/// How many variables of its own a gate with this part has, if it is reached.
+pub fn own_variables(reached: bool, part: Part) -> u64
+    ensures { result ≡ (if reached && spec.is_inner part then 1 else 0) }
+{
+    match part {
+        Part::Not(_) | Part::And(_, _) | Part::Or(_, _) if reached => 1,
+        _ => 0,
     }
 }

@@ -1,3 +1,4 @@
+pub mod Extending
 pub mod Marking
 pub mod Tables
 pub mod Written

@@ -1,4 +1,7 @@
-ghost use Rattle.std.specs.Prelude.{◌≡◌, ◌<◌, ◌≤◌, ◌+◌, [], ◌∷◌, length, IfOk, if◌then◌else◌};
+ghost use Rattle.std.specs.Prelude.{◌≡◌, ◌<◌, ◌≤◌, ◌↔◌, true, ◌+◌, [], ◌∷◌, length, IfOk, if◌then◌else◌};
+ghost use Rattle.cfj_model.specs.Logs.{ExtendsToModel};
+ghost use Rattle.cfj_model.specs.Selections.{Chosen};
+ghost use Rattle.cond_circuit.specs.Gates.{value};
 ghost use Rattle.cnf_form.specs.GateClauses.{AreClausesFor, AreClausesOf};
 
 use crate::literals::{add, add_gate, literal, own_variables, variable};
@@ -63,7 +66,8 @@ fn clauses_for(alloc: Global, circuit: &Circuit, top: u64) -> Result<Clauses, Al
 /// There is no memory for them.
 pub fn clauses_of(alloc: Global, circuit: &Circuit, gate: u64) -> Result<Clauses, AllocError>
     requires { gate < length circuit.now.parts }
-    ensures { IfOk result (λ c. AreClausesOf circuit.now gate c) }
+    ensures clauses { IfOk result (λ c. AreClausesOf circuit.now gate c) }
+    ensures extends { IfOk result (λ c. (s : Chosen) → ExtendsToModel c s ↔ (value s circuit.now.parts gate ≡ true)) }
 {
     match gate {
         0 => clauses_of_constant(alloc, circuit.features(), false),

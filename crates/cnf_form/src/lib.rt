@@ -4,8 +4,10 @@
 //! `specs/GateClauses.antt` says which and in which order.
 #![tactic(auto)]
 
+mod extends;
 mod gate;
 mod literals;
 mod marks;
 
+pub use extends::extends_where_true;
 pub use gate::clauses_of;

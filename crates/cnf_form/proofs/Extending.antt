@@ -19,7 +19,7 @@ use Rattle.cnf_form.proofs.Tables.{same, same-true, same-refl, holds, hold, and_
 part_is : (ps : List Part) (g : ℕ) → g < length ps → slice_get ps g ≡ Some (part_of ps g)
 part_is ps g within = slice_get-get_or ps g Zero within
 
-by_part_same : (m k : ℕ → Bool) (n g : ℕ) (p : Part) → Stands n g p → ((a : ℕ) → IsOperand a p → m a ≡ k a) → by_part m p ≡ by_part k p
+pub by_part_same : (m k : ℕ → Bool) (n g : ℕ) (p : Part) → Stands n g p → ((a : ℕ) → IsOperand a p → m a ≡ k a) → by_part m p ≡ by_part k p
 by_part_same m k n g Zero h eq = refl
 by_part_same m k n g One h eq = refl
 by_part_same m k n g (Feat f) h eq = refl
@@ -27,7 +27,7 @@ by_part_same m k n g (Not a) h eq = ap not (eq a refl)
 by_part_same m k n g (And a b) h eq = ap₂ (λ x y. x && y) (eq a (inl refl)) (eq b (inr refl))
 by_part_same m k n g (Or a b) h eq = ap₂ (λ x y. x || y) (eq a (inl refl)) (eq b (inr refl))
 
-value_inner : (s : Chosen) (ps : List Part) (n g : ℕ) (p : Part) → is_inner p ≡ true → slice_get ps g ≡ Some p → Stands n g p → value s ps g ≡ by_part (value s ps) p
+pub value_inner : (s : Chosen) (ps : List Part) (n g : ℕ) (p : Part) → is_inner p ≡ true → slice_get ps g ≡ Some p → Stands n g p → value s ps g ≡ by_part (value s ps) p
 value_inner s ps n g Zero e is h = absurd (let none : ⊥ = cc e in none)
 value_inner s ps n g One e is h = absurd (let none : ⊥ = cc e in none)
 value_inner s ps n g (Feat f) e is h = absurd (let none : ⊥ = cc e in none)
@@ -36,7 +36,7 @@ value_inner s ps n g (And a b) e is h = value_and s ps n g a b is h
 value_inner s ps n g (Or a b) e is h = value_or s ps n g a b is h
 
 -- operands are smaller, and no constants
-operand_less : (n g a : ℕ) (p : Part) → Stands n g p → IsOperand a p → (2 ≤ a) × (a < g)
+pub operand_less : (n g a : ℕ) (p : Part) → Stands n g p → IsOperand a p → (2 ≤ a) × (a < g)
 operand_less n g a Zero h o = absurd o
 operand_less n g a One h o = absurd o
 operand_less n g a (Feat f) h o = absurd o
@@ -55,11 +55,11 @@ reached_between n top ps k two g (Reaches.operand h a p reach is operand) =
     (less.0, omega (arith, before.1, less.1))
 
 -- a gate with this part has a variable of its own, or is a feature's
-data Kind (n g : ℕ) : Part → Type 0 where
+pub data Kind (n g : ℕ) : Part → Type 0 where
   feature : (f : ℕ) → f < n → Kind n g (Feat f)
   inner : (p : Part) → is_inner p ≡ true → ((before : ℕ) → variable p before ≡ before) → Kind n g p
 
-kind : (n g : ℕ) (p : Part) → 2 ≤ g → Stands n g p → Kind n g p
+pub kind : (n g : ℕ) (p : Part) → 2 ≤ g → Stands n g p → Kind n g p
 kind n g Zero two h = absurd (omega arith)
 kind n g One two h = absurd (omega arith)
 kind n g (Feat f) two h = Kind.feature f h
@@ -96,16 +96,16 @@ and_false false y e = refl
 
 module _ (c : Gates) (k : IsCircuit c.features c.parts) (top : ℕ) (two : 2 ≤ top) (within : top < length c.parts)
     (r : ℕ → Bool) (exact : (g : ℕ) → (r g ≡ true) ↔ Reaches c.parts top g) (s : Chosen) where
-  between : (g : ℕ) → r g ≡ true → (2 ≤ g) × (g ≤ top)
+  pub between : (g : ℕ) → r g ≡ true → (2 ≤ g) × (g ≤ top)
   between g e = reached_between c.features top c.parts k two g ((exact g).0 e)
 
-  is_part : (g : ℕ) → r g ≡ true → slice_get c.parts g ≡ Some (part_of c.parts g)
+  pub is_part : (g : ℕ) → r g ≡ true → slice_get c.parts g ≡ Some (part_of c.parts g)
   is_part g e = part_is c.parts g (omega (arith, (between g e).1))
 
-  stand : (g : ℕ) → r g ≡ true → Stands c.features g (part_of c.parts g)
+  pub stand : (g : ℕ) → r g ≡ true → Stands c.features g (part_of c.parts g)
   stand g e = k.stands g (part_of c.parts g) (is_part g e)
 
-  operand_reached : (g a : ℕ) → r g ≡ true → IsOperand a (part_of c.parts g) → r a ≡ true
+  pub operand_reached : (g a : ℕ) → r g ≡ true → IsOperand a (part_of c.parts g) → r a ≡ true
   operand_reached g a e o = (exact a).1 (Reaches.operand g a (part_of c.parts g) ((exact g).0 e) (is_part g e) o)
 
   reached_clauses : (v : Assignment) (g : ℕ) → r g ≡ true → is_inner (part_of c.parts g) ≡ true →
@@ -140,7 +140,7 @@ module _ (c : Gates) (k : IsCircuit c.features c.parts) (top : ℕ) (two : 2 ≤
   assign zero i = false
   assign (suc j) i = cond (has_own r c.parts j && (own_below r c.parts j == i)) (value s c.parts j) (assign j i)
 
-  own_grows : (g j : ℕ) → has_own r c.parts g ≡ true → g < j → own_below r c.parts g < own_below r c.parts j
+  pub own_grows : (g j : ℕ) → has_own r c.parts g ≡ true → g < j → own_below r c.parts g < own_below r c.parts j
   own_grows g zero own less = absurd (omega arith)
   own_grows g (suc j) own less = go (last g j less) (own_grows g j own)
     where
@@ -176,18 +176,18 @@ module _ (c : Gates) (k : IsCircuit c.features c.parts) (top : ℕ) (two : 2 ≤
   pub extension : Assignment
   extension x = cond (ltb x c.features) (is_on s x) (assign (top + 1) (x - c.features))
 
-  extension_on : (f : ℕ) → f < c.features → extension f ≡ is_on s f
+  pub extension_on : (f : ℕ) → f < c.features → extension f ≡ is_on s f
   unfolding extension
   extension_on f below = cond-true (ltb f c.features) (is_on s f) (assign (top + 1) (f - c.features)) (grind (arith, nat_tests))
 
-  extension_own : (i : ℕ) → extension (c.features + i) ≡ assign (top + 1) i
+  pub extension_own : (i : ℕ) → extension (c.features + i) ≡ assign (top + 1) i
   unfolding extension
   extension_own i =
       let past : ltb (c.features + i) c.features ≡ false = grind (arith, nat_tests) in
       let rest : (c.features + i) - c.features ≡ i = omega arith in
       cond-false (ltb (c.features + i) c.features) (is_on s (c.features + i)) (assign (top + 1) ((c.features + i) - c.features)) past ∙ ap (assign (top + 1)) rest
 
-  extension_agrees : (g : ℕ) → r g ≡ true → extension (variable_of r c g) ≡ value s c.parts g
+  pub extension_agrees : (g : ℕ) → r g ≡ true → extension (variable_of r c g) ≡ value s c.parts g
   extension_agrees g e = go (part_of c.parts g) refl (kind c.features g (part_of c.parts g) (between g e).0 (stand g e))
     where
       go : (p : Part) → part_of c.parts g ≡ p → Kind c.features g p → extension (variable_of r c g) ≡ value s c.parts g
@@ -216,7 +216,7 @@ module _ (c : Gates) (k : IsCircuit c.features c.parts) (top : ℕ) (two : 2 ≤
       test true e = go e (part_of c.parts g) refl (kind c.features g (part_of c.parts g) (between g e).0 (stand g e))
       test false e = ap (hold extension) (cond-false (r g) (part_clauses (variable_of r c) (variable_of r c g) (part_of c.parts g)) [] e)
 
-  top_reached : r top ≡ true
+  pub top_reached : r top ≡ true
   top_reached = (exact top).1 Reaches.itself
 
   -- the last clause

@@ -1,5 +1,5 @@
 ghost use Rattle.std.specs.Prelude.{◌≡◌, ◌<◌, ◌≤◌, ◌↔◌, true, ◌+◌, [], ◌∷◌, length, IfOk, if◌then◌else◌};
-ghost use Rattle.cfj_model.specs.Logs.{ExtendsToModel};
+ghost use Rattle.cfj_model.specs.Logs.{AreSettledByFeatures, AreWellFormed, ExtendsToModel};
 ghost use Rattle.cfj_model.specs.Selections.{Chosen};
 ghost use Rattle.cond_circuit.specs.Gates.{value};
 ghost use Rattle.cnf_form.specs.GateClauses.{AreClausesFor, AreClausesOf};
@@ -59,6 +59,18 @@ fn clauses_for(alloc: Global, circuit: &Circuit, top: u64) -> Result<Clauses, Al
     })
 }
 
+/// The clauses of a gate of the circuit, constant or not.
+fn listed(alloc: Global, circuit: &Circuit, gate: u64) -> Result<Clauses, AllocError>
+    requires { gate < length circuit.now.parts }
+    ensures { IfOk result (λ c. AreClausesOf circuit.now gate c) }
+{
+    match gate {
+        0 => clauses_of_constant(alloc, circuit.features(), false),
+        1 => clauses_of_constant(alloc, circuit.features(), true),
+        _ => clauses_for(alloc, circuit, gate),
+    }
+}
+
 /// The clauses of a gate of the circuit.
 ///
 /// # Errors
@@ -67,11 +79,10 @@ fn clauses_for(alloc: Global, circuit: &Circuit, top: u64) -> Result<Clauses, Al
 pub fn clauses_of(alloc: Global, circuit: &Circuit, gate: u64) -> Result<Clauses, AllocError>
     requires { gate < length circuit.now.parts }
     ensures clauses { IfOk result (λ c. AreClausesOf circuit.now gate c) }
+    ensures formed { IfOk result (λ c. AreWellFormed c) }
+    ensures settled { IfOk result (λ c. AreSettledByFeatures c) }
     ensures extends { IfOk result (λ c. (s : Chosen) → ExtendsToModel c s ↔ (value s circuit.now.parts gate ≡ true)) }
 {
-    match gate {
-        0 => clauses_of_constant(alloc, circuit.features(), false),
-        1 => clauses_of_constant(alloc, circuit.features(), true),
-        _ => clauses_for(alloc, circuit, gate),
-    }
+    let _kept = circuit.features();
+    listed(alloc, circuit, gate)
 }

@@ -4,10 +4,10 @@
 //! `specs/GateClauses.antt` says which and in which order.
 #![tactic(auto)]
 
-mod extends;
 mod gate;
+mod laws;
 mod literals;
 mod marks;
 
-pub use extends::extends_where_true;
 pub use gate::clauses_of;
+pub use laws::{extends_where_true, settled_by_features};

@@ -1,19 +1,19 @@
 -- A selection extends to a model of a gate's clauses exactly where the gate is true under it.
-use Rattle.std.proofs.Common.{◌≡◌, ℕ, zero, suc, ◌+◌, ◌-◌, ◌<◌, ◌≤◌, ◌⊎◌, inl, inr, ◌↔◌, ◌==◌, ltb, Bool, true, false, not, ◌&&◌, ◌||◌, cond, List, [], ◌∷◌, ◌++◌, length, get_or, Some, slice_get, refl, sym, ◌∙◌, ap, ap₂, subst, arith, add-one}
+use Rattle.std.proofs.Common.{◌≡◌, ℕ, zero, suc, ◌+◌, ◌-◌, ◌<◌, ◌≤◌, ◌⊎◌, inl, inr, ◌↔◌, ◌==◌, ltb, Bool, true, false, not, ◌&&◌, ◌||◌, cond, List, [], ◌∷◌, ◌++◌, length, Some, slice_get, refl, sym, ◌∙◌, ap, ap₂, subst, arith}
 use Rattle.std.proofs.lemmas.Bool.{cond-true, cond-false, eq-eqb, ne_eqb}
 use Rattle.std.proofs.lemmas.Bool.Decides.{nat_tests}
-use Rattle.std.proofs.lemmas.Option.{slice_get-get_or, slice_get_within}
+use Rattle.std.proofs.lemmas.Option.{slice_get-get_or}
 use Rattle.cfj_model.specs.declared.clauses.Literal.{Literal}
 use Rattle.cfj_model.specs.declared.clauses.Clauses.{Clauses}
 use Rattle.cfj_model.specs.Selections.{Chosen, is_on}
-use Rattle.cfj_model.specs.Logs.{Assignment, IsTrueIn, IsModel, ExtendsToModel}
+use Rattle.cfj_model.specs.Logs.{Assignment, IsModel, ExtendsToModel}
 use Rattle.cond_circuit.specs.Gates.{Gates, Stands, IsCircuit, value}
 use Rattle.cond_circuit.specs.declared.part.Part.{Part}
 use Rattle.cond_circuit.specs.declared.part.Part.TheVariants.{Zero, One, Feat, Not, And, Or}
 use Rattle.cond_circuit.proofs.ValueLemmas.{value_zero, value_one, value_feat, value_not, value_and, value_or}
 use Rattle.cnf_form.specs.Reaching.{IsOperand, Reaches}
 use Rattle.cnf_form.specs.GateClauses.{is_inner, part_of, has_own, own_below, variable, variable_of, literal, part_clauses, gate_clauses, clauses_below, AreClausesFor, AreClausesOf}
-use Rattle.cnf_form.proofs.Tables.{same, same-true, same-refl, holds, hold, and_left, and_right, both, hold-append, hold_model, model_hold, by_part, part_hold}
+use Rattle.cnf_form.proofs.Tables.{same, same-true, same-refl, hold, and_left, and_right, both, hold-append, hold_model, model_hold, by_part, part_hold}
 
 -- the part of a gate of the list
 part_is : (ps : List Part) (g : ℕ) → g < length ps → slice_get ps g ≡ Some (part_of ps g)

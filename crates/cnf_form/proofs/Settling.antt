@@ -1,20 +1,20 @@
 -- The clauses of a gate are settled by the features.
-use Rattle.std.proofs.Common.{◌≡◌, ℕ, zero, suc, ◌+◌, ◌<◌, ◌≤◌, ◌⊎◌, inl, inr, ◌↔◌, Bool, true, false, not, ◌&&◌, cond, List, [], ◌∷◌, ◌++◌, length, Some, None, slice_get, refl, sym, ◌∙◌, ap, subst, arith, add-one}
+use Rattle.std.proofs.Common.{◌≡◌, ℕ, zero, suc, ◌+◌, ◌<◌, ◌≤◌, ◌⊎◌, inl, inr, ◌↔◌, Bool, true, false, List, [], ◌∷◌, ◌++◌, length, Some, slice_get, refl, sym, ◌∙◌, ap, subst, arith}
 use Rattle.std.proofs.lemmas.Bool.{cond-true, cond-false}
 use Rattle.cfj_model.specs.declared.clauses.Literal.{Literal}
 use Rattle.cfj_model.specs.declared.clauses.Clauses.{Clauses}
 use Rattle.cfj_model.specs.Selections.{Chosen, is_on, choices}
-use Rattle.cfj_model.specs.UnitClauses.{Has, Values, value_of, IsFalse, with_true, IsFalsified, IsUnit, Reaches, Leads}
-use Rattle.cfj_model.specs.Logs.{Assignment, IsModel, fixed, Completes, AreSettledByFeatures}
+use Rattle.cfj_model.specs.UnitClauses.{Has, Values, value_of, IsFalse, with_true, Reaches, Leads}
+use Rattle.cfj_model.specs.Logs.{Assignment, IsModel, fixed, AreSettledByFeatures}
 use Rattle.cond_circuit.specs.Gates.{Gates, IsCircuit, value}
 use Rattle.cond_circuit.specs.declared.part.Part.{Part}
 use Rattle.cond_circuit.specs.declared.part.Part.TheVariants.{Zero, One, Feat, Not, And, Or}
-use Rattle.cnf_form.specs.Reaching.{IsOperand, Reaches as ReachesGate}
+use Rattle.cnf_form.specs.Reaching.{Reaches as ReachesGate}
 use Rattle.cnf_form.specs.GateClauses.{is_inner, part_of, has_own, own_below, variable, variable_of, literal, part_clauses, gate_clauses, clauses_below, AreClausesFor, AreClausesOf}
 use Rattle.cnf_form.proofs.Tables.{and_left, and_right, by_part, hold_model}
-use Rattle.cnf_form.proofs.Extending.{Kind, kind, operand_less, by_part_same, value_inner, between, is_part, stand, operand_reached, own_grows, top_reached, extension, extension_on, extension_own, extension_agrees, extended_where_true}
+use Rattle.cnf_form.proofs.Extending.{operand_less, value_inner, is_part, stand, operand_reached, own_grows, top_reached, extension, extension_on, extension_agrees, extended_where_true}
 use Rattle.cnf_form.proofs.Forming.{variable_before}
-use Rattle.cnf_form.proofs.UnitSteps.{Has-left, Has-right, Decides, decide, Reaches-trans, Known, known_more, known_features}
+use Rattle.cnf_form.proofs.UnitSteps.{Has-left, Has-right, decide, Reaches-trans, Known, known_more, known_features}
 
 -- unit clauses lead from the first values to known ones
 record Reached (cs : List (List Literal)) (start : Values) (size upto : ℕ) (m : ℕ → Bool) : Type 0 where

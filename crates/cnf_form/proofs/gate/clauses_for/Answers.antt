@@ -1,8 +1,8 @@
-use Rattle.std.proofs.Common.{◌≡◌, ℕ, ◌+◌, ◌<◌, ◌≤◌, Bool, true, false, cond, List, [], ◌∷◌, ◌++◌, length, get_or, sym, ◌∙◌, ap, subst, arith}
+use Rattle.std.proofs.Common.{◌≡◌, ◌+◌, false, cond, [], ◌∷◌, ◌++◌, get_or, sym, ◌∙◌, ap, subst, arith}
 use Rattle.std.proofs.lemmas.Option.{get_or_from_slice_get}
 use Rattle.cond_circuit.specs.declared.part.Part.TheVariants.{Zero}
 use Rattle.cnf_form.specs.Reaching.{AreBelow, is_marked}
-use Rattle.cnf_form.specs.GateClauses.{literal, part_of, part_clauses, variable_of, own_below, clauses_below}
+use Rattle.cnf_form.specs.GateClauses.{part_of, part_clauses, own_below}
 use Rattle.cnf_form.proofs.Marking.{stands_below, read_within}
 use Rattle.cnf_form.proofs.Written.{Written, written_more, written_done}
 use Rattle.cnf_form.proofs.gate.clauses_for.Goals as goal

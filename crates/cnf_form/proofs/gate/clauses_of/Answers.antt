@@ -1,4 +1,4 @@
-use Rattle.std.proofs.Common.{◌≡◌, ◌↔◌, Bool, true, Result, Ok, Err, IfOk}
+use Rattle.std.proofs.Common.{◌≡◌, ◌↔◌, true, Result, Ok, Err, IfOk}
 use Rattle.cfj_model.specs.Selections.{Chosen}
 use Rattle.cfj_model.specs.Logs.{AreSettledByFeatures, AreWellFormed, ExtendsToModel}
 use Rattle.cond_circuit.specs.Gates.{value}

@@ -1,5 +1,4 @@
-use Rattle.std.proofs.Common.{◌≡◌, ℕ, ◌+◌, ◌-◌, ◌<◌, ◌≤◌, Bool, true, false, List, length, get_or, replicate, set, sym, ◌∙◌, ap, subst, arith}
-use Rattle.cnf_form.specs.Reaching.{is_marked, with_operands}
+use Rattle.std.proofs.Common.{◌≡◌, ◌+◌, ◌-◌, ◌<◌, true, false, length, set, sym, ◌∙◌, subst, arith}
 use Rattle.cnf_form.proofs.Marking.{Marking, marking_start, marking_skip, marking_step, marking_done, read_within}
 use Rattle.cnf_form.proofs.marks.reached.Goals as goal
 

@@ -1,4 +1,4 @@
-use Rattle.std.proofs.Common.{ℕ, ◌≤◌, ◌+◌}
+use Rattle.std.proofs.Common.{◌≤◌, ◌+◌}
 use Rattle.cnf_form.proofs.Marking.{Marking}
 use Rattle.cnf_form.proofs.marks.reached.Given as goal
 

@@ -1,4 +1,5 @@
 pub mod Identifiers
 pub mod FeatureBits
+pub mod FormulaCases
 mod Reserved
 pub mod SetBits

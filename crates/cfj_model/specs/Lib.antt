@@ -1,10 +1,11 @@
 pub mod Characters
 pub mod FaultTexts
 pub mod Faults
+pub mod Formulas
 pub mod Grammar
 pub mod Lexemes
-pub mod Names
 pub mod Logs
+pub mod Names
 pub mod Print
 pub mod ProductLines
 pub mod Projection
@@ -13,3 +14,4 @@ pub mod Selections
 pub mod Sides
 pub mod Tokens
 pub mod UnitClauses
+pub mod formers

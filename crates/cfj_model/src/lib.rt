@@ -5,6 +5,7 @@
 //! text, and the printed form. It also says what selections, clauses and logs are, and when a clause follows by unit clauses.
 #![tactic(auto)]
 
+mod boxed;
 mod character;
 mod class;
 mod clause;
@@ -13,6 +14,7 @@ mod colors;
 mod fault;
 mod feature_model;
 mod feature_set;
+mod formula;
 mod items;
 mod log;
 mod name;
@@ -20,6 +22,7 @@ mod project;
 mod selection;
 mod text;
 
+pub use boxed::Boxed;
 pub use character::split_first;
 pub use class::{Class, Constructor, Field, Param, Sent};
 pub use clause::Clause;
@@ -28,6 +31,7 @@ pub use colors::Colors;
 pub use fault::{FaultKind, LimitKind, ParseFault};
 pub use feature_model::FeatureModel;
 pub use feature_set::FeatureSet;
+pub use formula::Formula;
 pub use items::Items;
 pub use log::Log;
 pub use name::{MOST_NAME_BYTES, Name, continues_word, is_identifier, is_reserved, starts_word};

@@ -1,0 +1,2 @@
+pub mod GateClauses
+pub mod Reaching

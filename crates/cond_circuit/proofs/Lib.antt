@@ -1,0 +1,4 @@
+pub mod FoldLemmas
+pub mod FormulaGates
+mod IndexLemmas
+pub mod ValueLemmas

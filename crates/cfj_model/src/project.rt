@@ -43,7 +43,8 @@ impl Project {
 
     /// Its features.
     pub fn model(&self) -> &FeatureModel
-        ensures { result.now ≡ self.now.model }
+        ensures model { result.now ≡ self.now.model }
+        ensures kept { IsProject self.now }
     {
         &self.model
     }

@@ -1,5 +1,5 @@
--- The printed form of a product line. Each node stands behind its marks (Kästner, Apel, Kuhlemann, ICSE 2008, colour them);
--- a print without features has none.
+-- The printed form of a product line. The colours of CIDE (Kästner, Apel, Kuhlemann, ICSE 2008) are marks before their nodes;
+-- where no features are given there are none.
 use Rattle.std.specs.Prelude.{ℕ, List, [], ◌∷◌, ◌++◌, codes, if◌then◌else◌}
 use Rattle.std.specs.List.{enumerate_from}
 use Rattle.cfj_model.specs.declared.class.Field.{Field}

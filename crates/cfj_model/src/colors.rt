@@ -1,4 +1,5 @@
 ghost use Rattle.std.specs.Prelude.{◌≡◌, ℕ, ◌^◌, ◌<◌, ◌↔◌, IsTrue, IsBitSet, bit_or};
+ghost use Rattle.cfj_model.specs.Selections.{has_bit};
 
 use std::marker::Model;
 
@@ -41,7 +42,8 @@ impl Colors {
     /// Whether this feature is in the set.
     pub fn has(&self, feature: u8) -> bool
         requires { feature < 128 }
-        ensures { IsTrue result ↔ IsBitSet self.now feature }
+        ensures member { result ≡ has_bit self.now feature }
+        ensures bit { IsTrue result ↔ IsBitSet self.now feature }
     {
         self.bits & (1 << feature) != 0
     }

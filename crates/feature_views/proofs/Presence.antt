@@ -12,7 +12,7 @@ use Rattle.cfj_model.specs.declared.class.Constructor.{Constructor}
 use Rattle.cfj_model.specs.declared.class.Class.{Class}
 use Rattle.cfj_model.specs.Projection.{presence_of, is_present, bare_field, bare_param, bare_sent, projected_ctor, projected_class}
 use Rattle.cfj_model.specs.Selections.{Chosen, is_subset}
-use Rattle.feature_views.specs.Selected.{selected_fields, selected_params, selected_sents}
+use Rattle.feature_views.specs.Selected.{selected_nodes}
 
 -- a subset has each of its bits in the set
 bits_within : (a n : ℕ) → is_subset a n ≡ true → (i : ℕ) → bit_at a i ≤ bit_at n i
@@ -47,19 +47,19 @@ present_inside s around own e =
     union i left right = let bit = bit_at_or around own i in omega arith
 
 -- so the present items of a list are those whose own colours are selected
-present_items : {A B : Type 0} (bare : A → B) (colors : A → ℕ) (s : Chosen) (around : ℕ) (xs : List A) → is_present s around ≡ true → map bare (filter (λ x. is_present s (presence_of around (colors x))) xs) ≡ map bare (filter (λ x. is_present s (colors x)) xs)
+present_items : {A : Type 0} (bare : A → A) (colors : A → ℕ) (s : Chosen) (around : ℕ) (xs : List A) → is_present s around ≡ true → map bare (filter (λ x. is_present s (presence_of around (colors x))) xs) ≡ selected_nodes colors bare s xs
 present_items bare colors s around xs e =
     ap (map bare) (filter_agree (λ x. is_present s (presence_of around (colors x))) (λ x. is_present s (colors x)) (λ x. present_inside s around (colors x) e) xs)
 
 -- a constructor in a present class, and the class, by their selected nodes
-pub ctor_is : (s : Chosen) (around : ℕ) (c : Constructor) (params : List Param) (sends assigns : List Sent) → is_present s around ≡ true → params ≡ selected_params s c.params → sends ≡ selected_sents s c.sends → assigns ≡ selected_sents s c.assigns → record { params = params; sends = sends; assigns = assigns } ≡ projected_ctor s around c
+pub ctor_is : (s : Chosen) (around : ℕ) (c : Constructor) (params : List Param) (sends assigns : List Sent) → is_present s around ≡ true → params ≡ selected_nodes (λ (p : Param). p.colors) bare_param s c.params → sends ≡ selected_nodes (λ (a : Sent). a.colors) bare_sent s c.sends → assigns ≡ selected_nodes (λ (a : Sent). a.colors) bare_sent s c.assigns → record { params = params; sends = sends; assigns = assigns } ≡ projected_ctor s around c
 ctor_is s around c params sends assigns here p d a =
     let of_params = p ∙ sym (present_items bare_param (λ q. q.colors) s around c.params here) in
     let of_sends = d ∙ sym (present_items bare_sent (λ q. q.colors) s around c.sends here) in
     let of_assigns = a ∙ sym (present_items bare_sent (λ q. q.colors) s around c.assigns here) in
     rw (of_params, of_sends, of_assigns) refl
 
-pub class_is : (s : Chosen) (k : Class) (name : List ℕ) (colors : ℕ) (parent : List ℕ) (fields : List Field) (ctor : Constructor) → is_present s k.colors ≡ true → name ≡ k.name → colors ≡ 0 → parent ≡ k.parent → fields ≡ selected_fields s k.fields → ctor ≡ projected_ctor s k.colors k.ctor → record { name = name; colors = colors; parent = parent; fields = fields; ctor = ctor } ≡ projected_class s k
+pub class_is : (s : Chosen) (k : Class) (name : List ℕ) (colors : ℕ) (parent : List ℕ) (fields : List Field) (ctor : Constructor) → is_present s k.colors ≡ true → name ≡ k.name → colors ≡ 0 → parent ≡ k.parent → fields ≡ selected_nodes (λ (f : Field). f.colors) bare_field s k.fields → ctor ≡ projected_ctor s k.colors k.ctor → record { name = name; colors = colors; parent = parent; fields = fields; ctor = ctor } ≡ projected_class s k
 class_is s k name colors parent fields ctor here n c p f d =
     let of_fields = f ∙ sym (present_items bare_field (λ q. q.colors) s k.colors k.fields here) in
     rw (n, c, p, of_fields, d) refl

@@ -1,7 +1,7 @@
 ghost use Rattle.std.specs.Prelude.{◌≡◌, true, IfOk};
 ghost use Rattle.cfj_model.specs.Projection.{is_present, projected_ctor, projected_class};
 
-use crate::nodes::{fields, params, sents};
+use crate::node::selected;
 use cfj_model::{Class, Colors, Constructor, Selection};
 use std::alloc::{AllocError, Global};
 
@@ -14,7 +14,7 @@ pub fn class_of(alloc: Global, class: &Class, selection: &Selection) -> Result<C
         name: class.name.copy(alloc)?,
         colors: Colors::empty(),
         parent: class.parent.copy(alloc)?,
-        fields: fields(alloc, &class.fields, selection)?,
+        fields: selected(alloc, &class.fields, selection)?,
         ctor: ctor_of(alloc, class, selection)?,
     })
 }
@@ -25,8 +25,8 @@ fn ctor_of(alloc: Global, class: &Class, selection: &Selection) -> Result<Constr
 {
     let ctor = &class.ctor;
     Ok(Constructor {
-        params: params(alloc, &ctor.params, selection)?,
-        sends: sents(alloc, &ctor.sends, selection)?,
-        assigns: sents(alloc, &ctor.assigns, selection)?,
+        params: selected(alloc, &ctor.params, selection)?,
+        sends: selected(alloc, &ctor.sends, selection)?,
+        assigns: selected(alloc, &ctor.assigns, selection)?,
     })
 }

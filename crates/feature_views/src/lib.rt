@@ -6,7 +6,7 @@
 #![tactic(auto)]
 
 mod class;
-mod nodes;
+mod node;
 mod variant;
 
 pub use variant::project;

@@ -1,6 +1,7 @@
 -- How what two calls add is what one adds.
 use Rattle.std.proofs.Common.{subst, OnOk, IsErr, ◌≡◌, refl, sym, ap, ◌∙◌, ℕ, ◌<◌, ◌≤◌, List, [], ◌++◌, length, take, drop, Result, Ok, Err, Some, None, length-append, append-nil, arith}
 use Rattle.std.proofs.lemmas.List.{append_assoc, take-append-drop}
+use Rattle.std.proofs.lemmas.Result.{IfOk-from_err}
 use Rattle.cide_io.specs.declared.faults.Failed.{Failed}
 use Rattle.cide_io.specs.Faults.{HasCause, Rose}
 use Rattle.cide_io.specs.Known.{Known, appended, IsCut, IsAdded}
@@ -134,3 +135,15 @@ all_added {a} {text = text} (Ok u) nothing empty h =
     let whole : text ≡ h.taken.sent = ap (λ w. w ++ text) (sym nothing) ∙ h.taken.split ∙ ap (λ w. h.taken.sent ++ w) empty ∙ append-nil h.taken.sent in
     h.taken.gained ∙ ap (λ w. appended a.held w) (sym whole)
 all_added {a} {b} {text = text} (Err e) nothing empty h = let P : List ℕ → Type 0 = λ w. IsCut a.held b.held (w ++ text) in subst P nothing h.taken
+
+-- after the last bytes went to the sink
+pub all_flushed : {a b c : Outlet} {text whole : List ℕ} {u : Unit {0}} (result : Result Unit Failed) → a.pending ≡ [] → OnOk result (c.pending ≡ []) → Carries a b text (Ok u) → Carries b c [] result → whole ≡ text → IsAdded a.held c.held whole result
+all_flushed {a} {c = c} {text = text} result nothing empty h k w =
+    let P : List ℕ → Type 0 = λ t. Carries a c t result in
+    all_added result nothing empty (subst P (append-nil text ∙ sym w) (adds_then h k))
+
+-- where a part fails before that
+pub all_failed : {a b : Outlet} {part whole : List ℕ} {e : Failed} (rest : List ℕ) (result : Result Unit Failed) → IsErr result → a.pending ≡ [] → Carries a b part (Err e) → whole ≡ part ++ rest → IsAdded a.held b.held whole result
+all_failed {a} {b} rest result is nothing h w =
+    let P : List ℕ → Type 0 = λ t. Carries a b t result in
+    all_added result nothing (IfOk-from_err result (λ _. b.pending ≡ []) is) (subst P (sym w) (adds_failed rest result is h))

@@ -1,3 +1,4 @@
 pub mod Composing
 pub mod Lists
+pub mod MarkTexts
 pub mod Parts

@@ -1,9 +1,10 @@
-ghost use Rattle.std.specs.Prelude.{◌++◌};
+ghost use Rattle.std.specs.Prelude.{◌≤◌, ◌++◌, length};
 ghost use Rattle.cfj_model.specs.Print.{texts, joined, param_text, sent_text, assign_text, ctor_text};
 ghost use Rattle.fj_printer.specs.Adds.{Adds};
 ghost use Rattle.fj_printer.specs.Parts.{ctor_head_text};
 
 use crate::buffer::Buffer;
+use crate::marks::marked;
 use crate::pieces::add_all;
 use cfj_model::{Constructor, Items, Name, Param, Sent};
 use cide_io::{Failed, Sink};
@@ -12,17 +13,19 @@ use cide_io::{Failed, Sink};
 pub fn ctor<K: Sink>(
     buffer: &mut Buffer,
     sink: &mut K,
+    features: &[Name],
     name: &Name,
     ctor: &Constructor,
 ) -> Result<(), Failed>
-    ensures { Adds K.held K.name K.faults sink.old buffer.old sink.new buffer.new (ctor_text name.now ctor.now) result }
+    requires { length features.now ≤ 128 }
+    ensures { Adds K.held K.name K.faults sink.old buffer.old sink.new buffer.new (ctor_text features.now name.now ctor.now) result }
 {
     head(buffer, sink, name)?;
-    params(buffer, sink, &ctor.params)?;
+    params(buffer, sink, features, &ctor.params)?;
     add_all(buffer, sink, &[") { super("])?;
-    sends(buffer, sink, &ctor.sends)?;
+    sends(buffer, sink, features, &ctor.sends)?;
     add_all(buffer, sink, &[");"])?;
-    assigns(buffer, sink, &ctor.assigns)?;
+    assigns(buffer, sink, features, &ctor.assigns)?;
     add_all(buffer, sink, &[" }\n"])
 }
 
@@ -32,13 +35,19 @@ fn head<K: Sink>(buffer: &mut Buffer, sink: &mut K, name: &Name) -> Result<(), F
     add_all(buffer, sink, &["  ", name.text(), "("])
 }
 
-fn params<K: Sink>(buffer: &mut Buffer, sink: &mut K, params: &Items<Param>) -> Result<(), Failed>
-    ensures { Adds K.held K.name K.faults sink.old buffer.old sink.new buffer.new (joined param_text params.now) result }
+fn params<K: Sink>(
+    buffer: &mut Buffer,
+    sink: &mut K,
+    features: &[Name],
+    params: &Items<Param>,
+) -> Result<(), Failed>
+    requires { length features.now ≤ 128 }
+    ensures { Adds K.held K.name K.faults sink.old buffer.old sink.new buffer.new (joined (param_text features.now) params.now) result }
 {
     let list = params.slice();
     let mut separator = "";
     'params: for item in list {
-        param(buffer, sink, separator, item)?;
+        param(buffer, sink, features, separator, item)?;
         separator = ", ";
     }
     Ok(())
@@ -47,23 +56,32 @@ fn params<K: Sink>(buffer: &mut Buffer, sink: &mut K, params: &Items<Param>) -> 
 fn param<K: Sink>(
     buffer: &mut Buffer,
     sink: &mut K,
+    features: &[Name],
     separator: &str,
     param: &Param,
 ) -> Result<(), Failed>
-    ensures { Adds K.held K.name K.faults sink.old buffer.old sink.new buffer.new (separator.now ++ param_text param.now) result }
+    requires { length features.now ≤ 128 }
+    ensures { Adds K.held K.name K.faults sink.old buffer.old sink.new buffer.new (separator.now ++ param_text features.now param.now) result }
 {
     let of = param.of.text();
     let name = param.name.text();
-    add_all(buffer, sink, &[separator, of, " ", name])
+    let rest = [of, " ", name];
+    marked(buffer, sink, features, separator, param.colors, &rest)
 }
 
-fn sends<K: Sink>(buffer: &mut Buffer, sink: &mut K, sends: &Items<Sent>) -> Result<(), Failed>
-    ensures { Adds K.held K.name K.faults sink.old buffer.old sink.new buffer.new (joined sent_text sends.now) result }
+fn sends<K: Sink>(
+    buffer: &mut Buffer,
+    sink: &mut K,
+    features: &[Name],
+    sends: &Items<Sent>,
+) -> Result<(), Failed>
+    requires { length features.now ≤ 128 }
+    ensures { Adds K.held K.name K.faults sink.old buffer.old sink.new buffer.new (joined (sent_text features.now) sends.now) result }
 {
     let list = sends.slice();
     let mut separator = "";
     'sends: for item in list {
-        sent(buffer, sink, separator, item)?;
+        sent(buffer, sink, features, separator, item)?;
         separator = ", ";
     }
     Ok(())
@@ -72,27 +90,43 @@ fn sends<K: Sink>(buffer: &mut Buffer, sink: &mut K, sends: &Items<Sent>) -> Res
 fn sent<K: Sink>(
     buffer: &mut Buffer,
     sink: &mut K,
+    features: &[Name],
     separator: &str,
     sent: &Sent,
 ) -> Result<(), Failed>
-    ensures { Adds K.held K.name K.faults sink.old buffer.old sink.new buffer.new (separator.now ++ sent_text sent.now) result }
+    requires { length features.now ≤ 128 }
+    ensures { Adds K.held K.name K.faults sink.old buffer.old sink.new buffer.new (separator.now ++ sent_text features.now sent.now) result }
 {
-    add_all(buffer, sink, &[separator, sent.name.text()])
+    let name = sent.name.text();
+    marked(buffer, sink, features, separator, sent.colors, &[name])
 }
 
-fn assigns<K: Sink>(buffer: &mut Buffer, sink: &mut K, assigns: &Items<Sent>) -> Result<(), Failed>
-    ensures { Adds K.held K.name K.faults sink.old buffer.old sink.new buffer.new (texts assign_text assigns.now) result }
+fn assigns<K: Sink>(
+    buffer: &mut Buffer,
+    sink: &mut K,
+    features: &[Name],
+    assigns: &Items<Sent>,
+) -> Result<(), Failed>
+    requires { length features.now ≤ 128 }
+    ensures { Adds K.held K.name K.faults sink.old buffer.old sink.new buffer.new (texts (assign_text features.now) assigns.now) result }
 {
     let list = assigns.slice();
     'assigns: for item in list {
-        assign(buffer, sink, item)?;
+        assign(buffer, sink, features, item)?;
     }
     Ok(())
 }
 
-fn assign<K: Sink>(buffer: &mut Buffer, sink: &mut K, assign: &Sent) -> Result<(), Failed>
-    ensures { Adds K.held K.name K.faults sink.old buffer.old sink.new buffer.new (assign_text assign.now) result }
+fn assign<K: Sink>(
+    buffer: &mut Buffer,
+    sink: &mut K,
+    features: &[Name],
+    assign: &Sent,
+) -> Result<(), Failed>
+    requires { length features.now ≤ 128 }
+    ensures { Adds K.held K.name K.faults sink.old buffer.old sink.new buffer.new (assign_text features.now assign.now) result }
 {
     let name = assign.name.text();
-    add_all(buffer, sink, &[" this.", name, " = ", name, ";"])
+    let rest = ["this.", name, " = ", name, ";"];
+    marked(buffer, sink, features, " ", assign.colors, &rest)
 }

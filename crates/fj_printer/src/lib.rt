@@ -1,4 +1,4 @@
-//! Prints a plain product line into a sink.
+//! Prints a product line, a plain one or a class into a sink.
 //!
 //! Rests on `cfj_model`, whose `specs/Print.antt` says what the printed form is, and on `cide_io`'s [`Sink`]. Every function
 //! of this layer promises the same of its own part of that form: after `Ok` exactly the part went behind what came before,
@@ -11,7 +11,9 @@
 mod buffer;
 mod classes;
 mod ctors;
+mod features;
+mod marks;
 mod pieces;
 mod project;
 
-pub use project::print_plain;
+pub use project::{print_class, print_plain, print_project};

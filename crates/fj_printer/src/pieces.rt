@@ -43,6 +43,13 @@ fn add<K: Sink>(buffer: &mut Buffer, sink: &mut K, text: &[u8]) -> Result<(), Fa
     Ok(())
 }
 
+/// Adds a text.
+pub fn add_text<K: Sink>(buffer: &mut Buffer, sink: &mut K, text: &str) -> Result<(), Failed>
+    ensures { Adds K.held K.name K.faults sink.old buffer.old sink.new buffer.new text.now result }
+{
+    add(buffer, sink, text.as_bytes())
+}
+
 /// Adds texts, one after another.
 pub fn add_all<K: Sink>(buffer: &mut Buffer, sink: &mut K, list: &[&str]) -> Result<(), Failed>
     ensures { Adds K.held K.name K.faults sink.old buffer.old sink.new buffer.new (texts (λ text. text.now) list.now) result }

@@ -6,5 +6,5 @@ use Rattle.fj_printer.proofs.classes.fields.Given as goal
 abbrev pub invariant-fields : goal.invariant-fields
 invariant-fields g l =
     Adds g.K.Sink.held g.K.Sink.name g.K.Sink.faults l.fn.sink l.fn.buffer l.sink l.buffer
-    (texts field_text (take l.item-index l.list))
+    (texts (field_text l.features) (take l.item-index l.list))
     (Ok tt)

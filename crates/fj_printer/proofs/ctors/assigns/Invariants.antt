@@ -6,5 +6,5 @@ use Rattle.fj_printer.proofs.ctors.assigns.Given as goal
 abbrev pub invariant-assigns : goal.invariant-assigns
 invariant-assigns g l =
     Adds g.K.Sink.held g.K.Sink.name g.K.Sink.faults l.fn.sink l.fn.buffer l.sink l.buffer
-    (texts assign_text (take l.item-index l.list))
+    (texts (assign_text l.features) (take l.item-index l.list))
     (Ok tt)

@@ -7,8 +7,8 @@ use Rattle.fj_printer.proofs.ctors.params.Goals as goal
 pub returns-in_err-param : goal.returns-in_err-param
 returns-in_err-param g c =
     adds_stopped _ c.from_residual.result c.from_residual.ensures.0 c.params.invariant.adds c.in_err-param.ensures
-    (ap (joined param_text) (sym c.slice-list.ensures)
-    ∙ joined_there param_text c.slice-list.result.now c.params.item-index _ _ _ (omega arith) c.params.invariant.between (ap param_text c.item-item.is))
+    (ap (joined (param_text c.args.features.now)) (sym c.slice-list.ensures)
+    ∙ joined_there (param_text c.args.features.now) c.slice-list.result.now c.params.item-index _ _ _ (omega arith) c.params.invariant.between (ap (param_text c.args.features.now) c.item-item.is))
 
 pub params-preserved : goal.params-preserved
 params-preserved g c =
@@ -16,5 +16,5 @@ params-preserved g c =
       utf8 = search rules;
       between = separator_after c.slice-list.result.now c.params.item-index c.item-item.result (omega arith);
       adds = adds_more c.params.invariant.adds c.in_ok-param.ensures
-          (joined_more param_text c.slice-list.result.now c.params.item-index _ _ _ (omega arith) c.params.invariant.between (ap param_text c.item-item.is));
+          (joined_more (param_text c.args.features.now) c.slice-list.result.now c.params.item-index _ _ _ (omega arith) c.params.invariant.between (ap (param_text c.args.features.now) c.item-item.is));
     }

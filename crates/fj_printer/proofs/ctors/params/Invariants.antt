@@ -12,6 +12,6 @@ invariant-params g l =
       utf8 : shadow (Utf8 l.separator);
       between : l.separator ≡ separator (take l.item-index l.list);
       adds : Adds g.K.Sink.held g.K.Sink.name g.K.Sink.faults l.fn.sink l.fn.buffer l.sink l.buffer
-          (joined param_text (take l.item-index l.list))
+          (joined (param_text l.features) (take l.item-index l.list))
           (Ok tt);
     }

@@ -1,3 +1,4 @@
+pub mod FeatureBits
 pub mod FormulaCases
 mod Reserved
 pub mod SetBits

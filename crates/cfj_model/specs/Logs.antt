@@ -1,5 +1,5 @@
 -- Logs of clauses that follow by unit clauses, after reverse unit propagation (Goldberg and Novikov, DATE 2003).
-use Rattle.std.specs.Prelude.{◌≡◌, ℕ, zero, suc, ◌+◌, ◌<◌, ◌≤◌, Bool, true, false, ◌⊎◌, if◌then◌else◌, List, [], ◌∷◌, ◌++◌, take, map, replicate, slice_get, Option, Some, None, All, bit_and}
+use Rattle.std.specs.Prelude.{◌≡◌, ℕ, zero, suc, ◌+◌, ◌<◌, ◌≤◌, Bool, true, false, ◌⊎◌, if◌then◌else◌, List, [], ◌∷◌, ◌++◌, take, map, replicate, slice_get, Some, None, All, bit_and}
 use Rattle.cfj_model.specs.declared.clauses.Literal.{Literal}
 use Rattle.cfj_model.specs.declared.clauses.Clauses.{Clauses}
 use Rattle.cfj_model.specs.Selections.{has_bit, Chosen, is_on, choices}
@@ -48,7 +48,7 @@ literals_from c zero f = []
 literals_from c (suc n) f = literal_if (has_bit c.on f) f true ++ (literal_if (has_bit c.off f) f false ++ literals_from c n (f + 1))
 
 -- the literals of a clause over features
-abbrev pub literals : Sides → List Literal
+unfoldable pub literals : Sides → List Literal
 literals c = literals_from c 128 0
 
 -- the clauses, and those of a log
@@ -95,9 +95,14 @@ fixed zero p = []
 fixed (suc n) [] = None ∷ fixed n []
 fixed (suc n) (b ∷ p) = Some b ∷ fixed n p
 
--- each selected feature has to be: with those before it as selected, and it not selected, unit clauses lead to a falsified one
+-- where the feature is selected, it has to be: with those before it as they are, and it not selected, unit clauses lead to a
+-- falsified clause
+abbrev pub IsForcedAt : ℕ → List (List Literal) → List Bool → ℕ → Type 0
+IsForcedAt vars cs p f = slice_get p f ≡ Some true → Leads cs (fixed vars (take f p ++ false ∷ []))
+
+-- each selected feature has to be
 abbrev pub AreForced : ℕ → List (List Literal) → List Bool → Type 0
-AreForced vars cs p = (f : ℕ) → slice_get p f ≡ Some true → Leads cs (fixed vars (take f p ++ false ∷ []))
+AreForced vars cs p = (f : ℕ) → IsForcedAt vars cs p f
 
 -- the log shows that this is the least selection that extends to a model
 pub record IsProofOfLeast (clauses : Clauses) (log : List Sides) (s : Chosen) : Type 0 where

@@ -1,5 +1,5 @@
 -- Clauses over features.
-use Rattle.std.specs.Prelude.{ℕ, ◌^◌, Bool, ◌&&◌, nat_lt}
+use Rattle.std.specs.Prelude.{ℕ, ◌^◌, Bool, ◌==◌, ◌&&◌, nat_lt}
 use Rattle.cfj_model.specs.Selections.{is_subset}
 
 -- a clause over features: one of `on` is selected, or one of `off` isn't
@@ -10,6 +10,10 @@ pub record Sides : Type 0 where
 -- the clause that no selection makes true
 abbrev pub empty_clause : Sides
 empty_clause = record { on = 0; off = 0 }
+
+-- the clause has no literal
+abbrev pub is_empty : Sides → Bool
+is_empty c = (c.on == 0) && (c.off == 0)
 
 -- all its features are below this number
 abbrev pub is_over : ℕ → Sides → Bool

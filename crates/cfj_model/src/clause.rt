@@ -1,5 +1,5 @@
 ghost use Rattle.std.specs.Prelude.{◌≡◌, ℕ, ◌≤◌, bit_and};
-ghost use Rattle.cfj_model.specs.Sides.{is_over, is_within};
+ghost use Rattle.cfj_model.specs.Sides.{is_empty, is_over, is_within};
 
 use crate::feature_set::FeatureSet;
 use std::marker::Model;
@@ -58,6 +58,13 @@ impl Clause {
         ensures once { bit_and self.now.on self.now.off ≡ 0 }
     {
         self.on.is_below(features) && self.off.is_below(features)
+    }
+
+    /// Whether it has no literal.
+    pub fn is_empty(&self) -> bool
+        ensures { result ≡ is_empty self.now }
+    {
+        self.on.is_empty() && self.off.is_empty()
     }
 
     /// Whether each of its literals is one of the other clause too.

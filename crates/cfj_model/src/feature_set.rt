@@ -29,6 +29,13 @@ impl FeatureSet {
         FeatureSet { bits: 0 }
     }
 
+    /// Whether it has no member.
+    pub fn is_empty(&self) -> bool
+        ensures { result ≡ (self.now == 0) }
+    {
+        self.bits == 0
+    }
+
     /// The set with this feature too.
     pub fn with(self, feature: u8) -> FeatureSet
         requires { feature < 128 }

@@ -2,7 +2,7 @@
 //!
 //! A product line is a feature model and a list of classes, parts of which may be marked with features. `specs/` says what its
 //! text is: characters and tokens with their places, the concrete syntax and what it stands for, the first fault of any other
-//! text, and the printed form.
+//! text, and the printed form. It also says what selections, clauses and logs are, and when a clause follows by unit clauses.
 #![tactic(auto)]
 
 mod boxed;

@@ -1,0 +1,9 @@
+pub mod Accepting
+pub mod ClauseLiterals
+pub mod Consequences
+pub mod FirstValues
+pub mod Least
+pub mod Members
+pub mod Passes
+pub mod Standing
+pub mod UnitSteps

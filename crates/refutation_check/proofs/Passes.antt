@@ -1,0 +1,86 @@
+-- Going once through clauses.
+use Rattle.std.proofs.Common.{◌≡◌, ℕ, ◌+◌, ◌<◌, ◌≤◌, ◌⊎◌, inl, inr, List, [], ◌∷◌, ◌++◌, length, get_or, take, refl, sym, ◌∙◌, ap, subst, arith}
+use Rattle.std.proofs.lemmas.List.{take_more}
+use Rattle.std.proofs.lemmas.Option.{slice_get_read}
+use Rattle.std.specs.Prelude.{All, sum_by}
+use Rattle.cfj_model.specs.declared.clauses.Literal.{Literal}
+use Rattle.refutation_check.specs.declared.units.Pass.{Pass}
+use Rattle.refutation_check.specs.declared.units.Pass.TheVariants as pass
+use Rattle.cfj_model.specs.UnitClauses.{Has, Values, with_true, IsUnit, Reaches, Leads}
+use Rattle.cfj_model.specs.Logs.{AreBelow}
+use Rattle.refutation_check.specs.Standings.{IsOpen, AreOpen, unvalued, Passes}
+use Rattle.refutation_check.proofs.Members.{has_left, has_right, has_split, has_one, all_has}
+use Rattle.refutation_check.proofs.Standing.{unvalued_falls}
+use Rattle.refutation_check.proofs.UnitSteps.{reaches_then, reaches_one, reaches_more, reaches_within, stuck}
+
+pub take_next : {A : Type 0} (xs : List A) (i : ℕ) (x : A) → i < length xs → x ≡ get_or xs i x → take (i + 1) xs ≡ take i xs ++ x ∷ []
+take_next xs i x lt is = take_more xs i x lt ∙ ap (λ w. take i xs ++ w ∷ []) (sym is)
+
+pub read_has : {A : Type 0} (xs : List A) (i : ℕ) (x : A) → i < length xs → x ≡ get_or xs i x → Has xs x
+read_has xs i x lt is = (i, slice_get_read xs (length xs) i x refl lt is)
+
+-- an open clause changes nothing
+pub passes_open : (cs : List (List Literal)) (vs ws : Values) (i : ℕ) (x y : List Literal) (found : Pass) → i < length cs → x ≡ get_or cs i x → y ≡ x → IsOpen ws y → Passes (take i cs) vs ws found →
+    Passes (take (i + 1) cs) vs ws found
+passes_open cs vs ws i x y found lt is same now p = subst (λ w. Passes w vs ws found) (sym (take_next cs i x lt is)) (go found p)
+  where
+    front : List (List Literal)
+    front = take i cs
+
+    go : (f : Pass) → Passes front vs ws f → Passes (front ++ x ∷ []) vs ws f
+    go pass.Falsified q = (q.0, has_left front (x ∷ []) q.0 q.1, q.2)
+    go pass.Changed q = q
+    go pass.Still q = (q.0, λ c h. each c (has_split front (x ∷ []) c h))
+      where
+        here_open : IsOpen vs x
+        here_open = subst (λ w. IsOpen w x) q.0 (subst (IsOpen ws) same now)
+
+        each : (c : List Literal) → Has front c ⊎ Has (x ∷ []) c → IsOpen vs c
+        each c (inl h) = q.1 c h
+        each c (inr h) = subst (IsOpen vs) (sym (has_one x c h)) here_open
+
+-- a literal of a clause is below the number of values
+pub literal_below : (n : ℕ) (cs : List (List Literal)) (c : List Literal) (l : Literal) → All (AreBelow n) cs → Has cs c → Has c l → l.var < n
+literal_below n cs c l all h k = all_has (λ (w : Literal). w.var < n) c l (all_has (AreBelow n) cs c all h) k
+
+pub unit_below : (n i : ℕ) (cs : List (List Literal)) (ws : Values) (x y : List Literal) (l : Literal) → All (AreBelow n) cs → i < length cs → x ≡ get_or cs i x → y ≡ x → IsUnit ws y l → l.var < n
+unit_below n i cs ws x y l all lt is same u = literal_below n cs x l all (read_has cs i x lt is) (subst (λ w. Has w l) same u.has)
+
+pub unit_reaches : (cs : List (List Literal)) (vs ws : Values) (i : ℕ) (x y : List Literal) (l : Literal) → i < length cs → x ≡ get_or cs i x → y ≡ x → IsUnit ws y l → Reaches cs vs ws → Reaches cs vs (with_true ws l)
+unit_reaches cs vs ws i x y l lt is same u r = reaches_then cs vs ws (with_true ws l) r (reaches_one cs ws x l (read_has cs i x lt is) (subst (λ w. IsUnit ws w l) same u))
+
+pub unit_falls : (vs ws : Values) (y : List Literal) (l : Literal) → sum_by unvalued ws ≤ sum_by unvalued vs → l.var < length ws → IsUnit ws y l → sum_by unvalued (with_true ws l) < sum_by unvalued vs
+unit_falls vs ws y l most lt u = let fall = unvalued_falls ws l lt u.unvalued in omega (arith, most, fall)
+
+-- ---- through both lists
+
+pub passes_falsified_left : (cs ds : List (List Literal)) (vs ws : Values) → Passes cs vs ws pass.Falsified → Passes (cs ++ ds) vs ws pass.Falsified
+passes_falsified_left cs ds vs ws p = (p.0, has_left cs ds p.0 p.1, p.2)
+
+-- nothing was left to do in the first
+pub passes_both : (cs ds : List (List Literal)) (vs us ws : Values) (found : Pass) → Passes cs vs us pass.Still → Passes ds us ws found → Passes (cs ++ ds) vs ws found
+passes_both cs ds vs us ws found p = go found
+  where
+    both_open : ws ≡ us → AreOpen ds us → AreOpen (cs ++ ds) vs
+    both_open e all c h = each (has_split cs ds c h)
+      where
+        each : Has cs c ⊎ Has ds c → IsOpen vs c
+        each (inl k) = p.1 c k
+        each (inr k) = subst (λ w. IsOpen w c) p.0 (all c k)
+
+    go : (f : Pass) → Passes ds us ws f → Passes (cs ++ ds) vs ws f
+    go pass.Falsified q = (q.0, has_right cs ds q.0 q.1, q.2)
+    go pass.Changed q = subst (λ w. sum_by unvalued ws < sum_by unvalued w) p.0 q
+    go pass.Still q = (q.0 ∙ p.0, both_open q.0 q.1)
+
+pub reaches_left : (cs ds : List (List Literal)) (vs ws : Values) → Reaches cs vs ws → Reaches (cs ++ ds) vs ws
+reaches_left cs ds vs ws = reaches_more cs (cs ++ ds) vs ws (λ c h. has_left cs ds c h)
+
+pub reaches_right : (cs ds : List (List Literal)) (vs ws : Values) → Reaches ds vs ws → Reaches (cs ++ ds) vs ws
+reaches_right cs ds vs ws = reaches_more ds (cs ++ ds) vs ws (λ c h. has_right cs ds c h)
+
+pub leads_at : (cs : List (List Literal)) (vs us ws : Values) → Reaches cs vs us → Reaches cs us ws → Passes cs us ws pass.Falsified → Leads cs vs
+leads_at cs vs us ws r s p = record { end = ws; reached = reaches_then cs vs us ws r s; clause = p.0; has = p.1; falsified = p.2 }
+
+pub leads_not : (cs : List (List Literal)) (vs us ws : Values) → Reaches cs vs us → Passes cs us ws pass.Still → Leads cs vs → ⊥
+leads_not cs vs us ws r p = stuck cs vs us p.1 (reaches_within cs vs us r)

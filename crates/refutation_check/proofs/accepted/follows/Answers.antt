@@ -1,0 +1,25 @@
+use Rattle.std.proofs.Common.{◌≡◌, ◌++◌, length, sym, ◌∙◌, ap, subst, inl}
+use Rattle.std.specs.Prelude.{All}
+use Rattle.cfj_model.specs.UnitClauses.{Leads}
+use Rattle.cfj_model.specs.Logs.{AreBelow, assumed}
+use Rattle.refutation_check.proofs.FirstValues.{assumed_length}
+use Rattle.refutation_check.proofs.Consequences.{follows_leads}
+use Rattle.refutation_check.proofs.accepted.follows.Goals as goal
+
+pub propagate-requires-clause-clauses : goal.propagate-requires-clause-clauses
+propagate-requires-clause-clauses c =
+    let n : length c.as_mut_slice.result.now ≡ c.args.clauses.now.vars = ap length (c.as_mut_slice.ensures.value ∙ c.in_ok-values.ensures) ∙ assumed_length c.args.clauses.now.vars c.args.clause.now in
+    subst (λ k. All (AreBelow k) c.slice.result.now) (sym n) (subst (All (AreBelow c.args.clauses.now.vars)) (sym c.slice.ensures) c.requires.formed.literals)
+
+pub propagate-requires-clause-learned : goal.propagate-requires-clause-learned
+propagate-requires-clause-learned c =
+    let n : length c.as_mut_slice.result.now ≡ c.args.clauses.now.vars = ap length (c.as_mut_slice.ensures.value ∙ c.in_ok-values.ensures) ∙ assumed_length c.args.clauses.now.vars c.args.clause.now in
+    subst (λ k. All (AreBelow k) c.args.learned.now) (sym n) c.requires.learned
+
+pub returns : goal.returns
+returns c =
+    let vs : c.as_mut_slice.result.now ≡ assumed c.args.clauses.now.vars c.args.clause.now = c.as_mut_slice.ensures.value ∙ c.in_ok-values.ensures in (
+      λ t. inl (subst (Leads (c.args.clauses.now.list ++ c.args.learned.now)) vs (subst (λ w. Leads (w ++ c.args.learned.now) c.as_mut_slice.result.now) c.slice.ensures (c.propagate.ensures.0 t))),
+      λ f. c.propagate.ensures.1 (subst (λ w. Leads (w ++ c.args.learned.now) c.as_mut_slice.result.now) (sym c.slice.ensures)
+          (subst (Leads (c.args.clauses.now.list ++ c.args.learned.now)) (sym vs) (follows_leads c.args.clauses.now.vars (c.args.clauses.now.list ++ c.args.learned.now) c.args.clause.now f))),
+    )

@@ -1,0 +1,6 @@
+use Rattle.std.proofs.Common.{◌<◌, ◌++◌, ℕ}
+use Rattle.cfj_model.specs.Logs.{IsForcedAt}
+use Rattle.refutation_check.proofs.check.are_forced.Given as goal
+
+abbrev pub invariant-loop-feature : goal.invariant-loop-feature
+invariant-loop-feature l = (f : ℕ) → f < l.feature → IsForcedAt l.clauses.vars (l.clauses.list ++ l.learned) l.choices f

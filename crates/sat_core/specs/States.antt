@@ -1,0 +1,31 @@
+-- What a search keeps from step to step.
+use Rattle.std.specs.Prelude.{◌≡◌, ℕ, ◌≤◌, Bool, true, false, List, [], ◌∷◌, ◌++◌, length, map}
+use Rattle.std.specs.List.{list_any}
+use Rattle.cfj_model.specs.declared.clauses.Literal.{Literal}
+use Rattle.cfj_model.specs.declared.clauses.Clauses.{Clauses}
+use Rattle.cfj_model.specs.Sides.{Sides, is_empty}
+use Rattle.cfj_model.specs.UnitClauses.{Leads}
+use Rattle.cfj_model.specs.Logs.{literals, premises, fixed, IsAccepted, AreForced}
+
+-- the log is accepted, holds no empty clause, and its clauses are the learned ones
+pub record IsLearned (clauses : Clauses) (log : List Sides) (learned : List (List Literal)) : Type 0 where
+  pub literals : learned ≡ map literals log
+  pub accepted : IsAccepted clauses log
+  pub plain : list_any is_empty log ≡ false
+
+-- unit clauses lead from these values of the first features to a falsified clause
+abbrev pub IsConflict : Clauses → List Sides → List Bool → Type 0
+IsConflict clauses log prefix = Leads (premises clauses log) (fixed clauses.vars prefix)
+
+-- each feature that is selected has to be, and where the search goes back it goes on from a conflict
+pub record IsState (clauses : Clauses) (budget : ℕ) (log : List Sides) (learned : List (List Literal)) (prefix : List Bool) (back : Bool) : Type 0 where
+  pub known : IsLearned clauses log learned
+  pub short : length prefix ≤ clauses.features
+  pub forced : AreForced clauses.vars (premises clauses log) prefix
+  pub conflict : back ≡ true → IsConflict clauses log prefix
+  pub within : length log ≤ budget
+
+-- the last value is gone where it was selected, and else is selected instead
+abbrev pub Retreats : List Bool → List Bool → Bool → Type 0
+Retreats p q true = p ≡ q ++ true ∷ []
+Retreats p q false = (front : List Bool) × (p ≡ front ++ false ∷ []) × (q ≡ front ++ true ∷ [])

@@ -1,8 +1,7 @@
 -- Words that are identifiers, by their characters.
-use Rattle.std.proofs.Common.{◌≡◌, ◌<◌, ◌||◌, ◌&&◌, Bool, true, false, codes, refl, ap, ◌∙◌, lit<}
+use Rattle.std.proofs.Common.{◌≡◌, true, refl, lit<}
 use Rattle.std.specs.Str.{chars}
 use Rattle.unicode_ident.proofs.IdentLemmas.{is_xid_start-ascii, is_xid_continue-ascii}
-use Rattle.unicode_ident.specs.Ident.{is_xid_start, is_xid_continue}
 use Rattle.cfj_model.specs.Names.{is_identifier, is_reserved}
 use Rattle.cfj_model.specs.Grammar.{features_word}
 

@@ -1,5 +1,5 @@
 -- The texts of projects, and the first fault of any other text.
-use Rattle.std.specs.Prelude.{◌≡◌, ℕ, ◌+◌, Bool, true, false, List, [], ◌∷◌, ◌++◌, length, Option, Some, None}
+use Rattle.std.specs.Prelude.{◌≡◌, ℕ, true, false, List, [], ◌∷◌, ◌++◌, length, Option, Some, None}
 use Rattle.std.specs.Str.{chars, IsUtf8, IsValidUpTo}
 use Rattle.cfj_model.specs.declared.fault.FaultKind.{FaultKind}
 use Rattle.cfj_model.specs.declared.fault.FaultKind.TheVariants.{BadChar, OpenComment, Unexpected, Reserved, NotUtf8}
@@ -8,7 +8,7 @@ use Rattle.cfj_model.specs.Lexemes.{Lexed, Found, AtEnd, NoToken, NoClose, next_
 use Rattle.cfj_model.specs.Tokens.{Token, Id, End, Takes, token_seen, place_of, is_reserved_word}
 use Rattle.cfj_model.specs.ProductLines.{ProductLine}
 use Rattle.cfj_model.specs.Grammar.{Tree, spell, value}
-use Rattle.cfj_model.specs.Roles.{Role, plain, roles, Tally, nothing, tallied, broken_by, AreWithin}
+use Rattle.cfj_model.specs.Roles.{Role, plain, roles, nothing, tallied, broken_by, AreWithin}
 
 -- The text is one of the grammar, within the limits, and stands for this product line.
 pub record IsTextOf (text : List ℕ) (line : ProductLine) : Type 0 where

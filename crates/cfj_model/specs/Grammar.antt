@@ -6,7 +6,6 @@ use Rattle.cfj_model.specs.declared.class.Param.{Param}
 use Rattle.cfj_model.specs.declared.class.Sent.{Sent}
 use Rattle.cfj_model.specs.declared.class.Constructor.{Constructor}
 use Rattle.cfj_model.specs.declared.class.Class.{Class}
-use Rattle.cfj_model.specs.declared.feature_model.FeatureModel.{FeatureModel}
 use Rattle.cfj_model.specs.ProductLines.{ProductLine}
 use Rattle.cfj_model.specs.Tokens.{Token, Id, ClassWord, ExtendsWord, SuperWord, ThisWord, OpenBrace, CloseBrace, OpenParen, CloseParen, Semicolon, Comma, Dot, Equals, At}
 

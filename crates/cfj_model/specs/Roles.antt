@@ -52,14 +52,14 @@ roles_ctor k rest =
     used_name k.name
     ∷ (plain
     ∷ separated plain roles_param k.params
-      (plain
-      ∷ (plain
-      ∷ (plain
-      ∷ (plain
-      ∷ separated plain roles_sent k.sends
-        (plain
-        ∷ (plain
-        ∷ in_order roles_assign k.assigns (plain ∷ rest))))))))
+    (plain
+    ∷ (plain
+    ∷ (plain
+    ∷ (plain
+    ∷ separated plain roles_sent k.sends
+    (plain
+    ∷ (plain
+    ∷ in_order roles_assign k.assigns (plain ∷ rest))))))))
 
 abbrev pub roles_class : ClassTree → List Role → List Role
 roles_class k rest =

@@ -84,5 +84,5 @@ first_of_parts features parts i d names fault lt split named none bad =
     let part = slice_index_or parts i d in
     let rest = map (λ (p : Bor (List ℕ)). p.now) (drop (i + 1) parts) in
     let same : names ++ part.now ∷ rest ≡ map (λ p. p.now) parts =
-        ap (λ (w : List (Bor (List ℕ))). names ++ map (λ p. p.now) w) (sym (drop_more parts i d lt)) ∙ split in
+    ap (λ (w : List (Bor (List ℕ))). names ++ map (λ p. p.now) w) (sym (drop_more parts i d lt)) ∙ split in
     subst (λ (ns : List (List ℕ)). IsFirstBad features ns fault) same (bad part.now rest (no_feature features part.now named none))

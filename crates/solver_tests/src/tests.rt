@@ -91,7 +91,10 @@ fn formulas_of_each_kind_have_their_values(rt: HostRuntime) -> Result<(), Fail> 
     let alloc = rt.alloc();
     for left in 0..10u8 {
         let denied = not(alloc, small(alloc, left)?)?;
-        assert!(rt; gate_agrees(alloc, 3, &small(alloc, left)?)?, "formula {left}");
+        assert!(rt;
+            gate_agrees(alloc, 3, &small(alloc, left)?)?,
+            "formula {left}"
+        );
         assert!(rt; gate_agrees(alloc, 3, &denied)?, "not {left}");
         for right in 0..10u8 {
             let both = and(alloc, small(alloc, left)?, small(alloc, right)?)?;
@@ -118,10 +121,8 @@ fn clauses_for(alloc: Global, features: u8, formula: &Formula) -> Result<Clauses
 fn is_clause(clauses: &Clauses, place: usize, literals: &[(u64, bool)]) -> bool {
     let clause = clauses.list.slice()[place].slice();
     clause.len() == literals.len()
-        && clause
-            .iter()
-            .zip(literals.iter())
-            .all(|(literal, (var, on))| literal.var == *var && literal.on == *on)
+        && clause.iter().zip(literals.iter()).all(|(literal, (var, on))| literal.var == *var
+            && literal.on == *on)
 }
 
 #[test]
@@ -302,9 +303,7 @@ fn search_agrees(alloc: Global, features: u8, formula: &Formula) -> Result<bool,
     let clauses = clauses_for(alloc, features, formula)?;
     let found = plain_search(features, formula);
     match solve(alloc, &clauses, BUDGET)? {
-        Answer::Refuted(log) => {
-            Ok(found.is_none() && check_refutation(alloc, &clauses, &log)?)
-        }
+        Answer::Refuted(log) => { Ok(found.is_none() && check_refutation(alloc, &clauses, &log)?) }
         Answer::Least(selection, log) => {
             let Some(least) = found else {
                 return Ok(false);
@@ -338,8 +337,14 @@ fn the_solver_finds_what_a_plain_search_finds(rt: HostRuntime) -> Result<(), Fai
         if plain_search(features, &formula).is_none() {
             refuted += 1;
         }
-        assert!(rt; search_agrees(alloc, features, &formula)?, "circuit {number}");
+        assert!(rt;
+            search_agrees(alloc, features, &formula)?,
+            "circuit {number}"
+        );
     }
-    assert!(rt; refuted > 20 && refuted < 220, "{refuted} of the circuits are never true");
+    assert!(rt;
+        refuted > 20 && refuted < 220,
+        "{refuted} of the circuits are never true"
+    );
     Ok(())
 }

@@ -10,12 +10,14 @@ class A extends Object { @Log L l; Object o; A(@Log L l, Object o) { super(); @L
 ";
 
 /// A class with two marks beside one with none.
-const PAIR: &str = "features A, B; @A @B class C extends D { C() { super(); } } class D extends Object { D() { super(); } }";
+const PAIR: &str =
+    "features A, B; @A @B class C extends D { C() { super(); } } class D extends Object { D() { super(); } }";
 
 const WITHOUT_PAIR: &str = "class D extends Object {\n  D() { super(); }\n}\n";
 
 /// A marked class whose parts have marks of their own.
-const NESTED: &str = "features A, B; @A class C extends Object { @B C f; C g; C(@B C f, C g) { super(@A f, @B g); @B this.f = f; @A @B this.g = g; } }";
+const NESTED: &str =
+    "features A, B; @A class C extends Object { @B C f; C g; C(@B C f, C g) { super(@A f, @B g); @B this.f = f; @A @B this.g = g; } }";
 
 /// One node of each kind that may be marked, all with the mark.
 const EACH_KIND: &str = "features F;
@@ -94,7 +96,11 @@ const VARIANTS: [(&str, &str, &str); 20] = [
         "F",
         "class A extends Object {\n  A() { super(); }\n}\n",
     ),
-    ("features F; @F class A extends Object { A() { super(); } }", ".", ""),
+    (
+        "features F; @F class A extends Object { A() { super(); } }",
+        ".",
+        "",
+    ),
     // a feature may have any identifier as its name
     (
         "features features, constraint; @constraint @features class A extends Object { A() { super(); } }",
@@ -109,7 +115,10 @@ fn prints_the_variant_that_names_spell(rt: HostRuntime) -> Result<(), Fail> {
     for (text, names, printed) in VARIANTS {
         let answer = export(&rt, text, names)?;
         assert_eq!(rt; answer.status, 0, "of {text} under {names}");
-        assert!(rt; answer.out.as_slice() == printed.as_bytes(), "of {text} under {names}");
+        assert!(rt;
+            answer.out.as_slice() == printed.as_bytes(),
+            "of {text} under {names}"
+        );
         assert!(rt; answer.err.is_empty(), "of {text} under {names}");
     }
     Ok(())
@@ -150,7 +159,10 @@ fn refuses_the_first_bad_name(rt: HostRuntime) -> Result<(), Fail> {
     for (names, line) in BAD_NAMES {
         let answer = export(&rt, LOGGED, names)?;
         assert_eq!(rt; answer.status, 3, "under {names}");
-        assert!(rt; is_line(answer.err.as_slice(), line), "under {names}: {line}");
+        assert!(rt;
+            is_line(answer.err.as_slice(), line),
+            "under {names}: {line}"
+        );
         assert!(rt; answer.out.is_empty(), "under {names}");
     }
     Ok(())
@@ -178,7 +190,9 @@ fn takes_128_features_and_no_more(rt: HostRuntime) -> Result<(), Fail> {
     let alloc = rt.alloc();
     let features = names_below(alloc, 128, ", ")?;
     let features = features.as_str();
-    let text = format!(in alloc; "features {features}; @F127 @F0 class A extends Object {{ A() {{ super(); }} }}")?;
+    let text = format!(in alloc;
+        "features {features}; @F127 @F0 class A extends Object {{ A() {{ super(); }} }}"
+    )?;
     let text = text.as_str();
     let printed = "class A extends Object {\n  A() { super(); }\n}\n";
     let all = names_below(alloc, 128, ",")?;

@@ -1,5 +1,5 @@
 -- The lists in hand are no longer than what was counted.
-use Rattle.std.proofs.Common.{◌≡◌, ℕ, ◌+◌, ◌<◌, Bool, true, false, List, [], ◌∷◌, ◌++◌, length, Option, Some, None, IfSome, refl, subst, arith, length-append, cond}
+use Rattle.std.proofs.Common.{◌≡◌, ℕ, ◌<◌, Bool, true, false, List, [], ◌∷◌, ◌++◌, length, Option, Some, None, IfSome, refl, subst, arith, length-append, cond}
 use Rattle.std.proofs.lemmas.Bool.{false≢true, leb-false}
 use Rattle.std.specs.Prelude.{nat_le}
 use Rattle.cfj_model.specs.declared.fault.FaultKind.TheVariants.{Twice, Limit}

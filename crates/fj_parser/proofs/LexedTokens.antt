@@ -5,7 +5,7 @@ use Rattle.std.proofs.lemmas.Slice.Eq.{bytes_eq-Decides}
 use Rattle.cfj_model.specs.Names.{is_reserved}
 use Rattle.cfj_model.specs.Faults.{lexical_fault}
 use Rattle.cfj_model.specs.Lexemes.{Lexeme, Word, Mark, Lexed, Found, AtEnd, NoToken, NoClose}
-use Rattle.cfj_model.specs.Tokens.{Token, Id, word_token, token_of, place_of}
+use Rattle.cfj_model.specs.Tokens.{Id, word_token, token_of, place_of}
 use Rattle.fj_lexer.specs.Kinds.{kind_of, characters_of}
 use Rattle.fj_lexer.specs.Lexing.{IsToken, Gives}
 use Rattle.fj_lexer.specs.declared.lexer.Lexer.{Lexer}

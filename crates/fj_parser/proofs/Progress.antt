@@ -3,7 +3,6 @@ use Rattle.std.proofs.Common.{◌≡◌, ℕ, List, [], ◌∷◌, ◌++◌, len
 use Rattle.std.proofs.Math.Nat.{sub-zero}
 use Rattle.std.specs.Str.{chars, IsUtf8}
 use Rattle.cfj_model.specs.declared.fault.FaultKind.{FaultKind}
-use Rattle.cfj_model.specs.declared.class.Class.{Class}
 use Rattle.cfj_model.specs.Faults.{IsTextOf, IsFaultAt, misplaced, breaking, Front, IsFirstFault, no_lexeme, no_place, IsMisplaced, lexical_fault}
 use Rattle.cfj_model.specs.Grammar.{spell}
 use Rattle.cfj_model.specs.ProductLines.{ProductLine, IsProject}

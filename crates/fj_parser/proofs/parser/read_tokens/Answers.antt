@@ -1,9 +1,8 @@
-use Rattle.std.proofs.Common.{◌≡◌, ℕ, List, Some, None, Ok, Err, ap, subst, sym, ◌∙◌, length}
+use Rattle.std.proofs.Common.{◌≡◌, ℕ, List, Err, ap, subst, sym, ◌∙◌, length}
 use Rattle.std.proofs.lemmas.Result.{err_from_is_err_and, on_ok_weaker}
 use Rattle.std.specs.Str.{chars}
 use Rattle.cfj_model.specs.Lexemes.{next_lexeme}
 use Rattle.fj_lexer.specs.Lexing.{Gives}
-use Rattle.cfj_model.specs.declared.fault.ParseFault.{ParseFault}
 use Rattle.cfj_model.specs.declared.fault.ParseFault.TheVariants.{At}
 use Rattle.cfj_model.specs.declared.fault.FaultKind.{FaultKind}
 use Rattle.cfj_model.specs.Faults.{IsFirstFault}

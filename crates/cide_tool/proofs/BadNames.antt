@@ -10,7 +10,7 @@ use Rattle.cfj_model.specs.ProductLines.{has}
 use Rattle.feature_model.specs.declared.names.NameFault.{NameFault}
 use Rattle.feature_model.specs.declared.names.NameFault.TheVariants.{NoFeature, Twice}
 use Rattle.cfj_model.specs.Selections.{Chosen}
-use Rattle.feature_model.specs.NamedSelections.{named_selection, IsSpelled, AreDistinctFeatures, IsNoFeature, IsNamedTwice, IsFirstBad}
+use Rattle.feature_model.specs.NamedSelections.{named_selection, IsSpelled, AreDistinctFeatures, IsNoFeature, IsFirstBad}
 
 named_if_short : (text : List ℕ) → is_short_identifier text ≡ true → is_name text ≡ true
 named_if_short text e = ap (λ b. b || bytes_eq text (codes "this")) e

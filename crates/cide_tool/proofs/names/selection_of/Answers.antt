@@ -1,5 +1,4 @@
-use Rattle.std.proofs.Common.{◌≡◌, false, List, ℕ, ◌∷◌, ◌++◌, subst, arith, IfNone}
-use Rattle.cfj_model.specs.Names.{is_name}
+use Rattle.std.proofs.Common.{◌≡◌, false, List, ℕ, ◌∷◌, ◌++◌, subst, arith}
 use Rattle.cfj_model.specs.ProductLines.{has}
 use Rattle.feature_model.specs.NamedSelections.{IsFirstBad}
 use Rattle.cide_tool.proofs.BadNames.{first_of_parts}

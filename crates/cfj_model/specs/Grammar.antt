@@ -155,8 +155,8 @@ value_ctor features k =
 
 abbrev pub value_class : List (List ℕ) → ClassTree → Class
 value_class features k =
-    record { name = k.name; colors = colors_of features k.marks; parent = k.parent; fields = map (value_field features) k.fields; ctor = value_ctor features k }
+    record { name = k.name; colors = colors_of features k.marks; parent = k.parent; fields = map (value_field features) k.fields; ctor = value_ctor features k; methods = [] }
 
 -- the product line that a tree stands for; it is numbered
 abbrev pub value : Tree → ProductLine
-value tree = record { model = record { features = tree.features }; classes = map (value_class tree.features) tree.classes }
+value tree = record { model = record { features = tree.features; constraints = [] }; classes = map (value_class tree.features) tree.classes }

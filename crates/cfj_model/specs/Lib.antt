@@ -1,4 +1,5 @@
 pub mod Characters
+pub mod Expressions
 pub mod FaultTexts
 pub mod Faults
 pub mod Formulas

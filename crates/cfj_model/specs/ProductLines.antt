@@ -1,13 +1,18 @@
 -- What a project is, and what its type keeps of it.
-use Rattle.std.specs.Prelude.{◌≡◌, ℕ, ◌+◌, ◌^◌, Bool, true, not, ◌&&◌, ◌==◌, nat_le, nat_lt, List, [], ◌∷◌, ◌++◌, length, map, codes, sum_by}
+use Rattle.std.specs.Prelude.{◌≡◌, ℕ, ◌+◌, Bool, true, not, ◌&&◌, ◌==◌, nat_le, List, [], ◌∷◌, ◌++◌, length, map, codes, sum_by}
 use Rattle.std.specs.List.{list_any, list_all}
 use Rattle.std.specs.Str.{bytes_eq}
 use Rattle.cfj_model.specs.Names.{is_short_identifier}
+use Rattle.cfj_model.specs.Expressions.{are_known, is_bare, is_named, nest, node_count, slots}
+use Rattle.cfj_model.specs.Formulas.{is_over, formula_nest, formula_node_count}
+use Rattle.cfj_model.specs.declared.formula.Formula.{Formula}
+use Rattle.cfj_model.specs.declared.class.Method.{Method}
 use Rattle.cfj_model.specs.declared.class.Field.{Field}
 use Rattle.cfj_model.specs.declared.class.Param.{Param}
 use Rattle.cfj_model.specs.declared.class.Sent.{Sent}
 use Rattle.cfj_model.specs.declared.class.Constructor.{Constructor}
 use Rattle.cfj_model.specs.declared.class.Class.{Class}
+use Rattle.cfj_model.specs.declared.expr.Expr.{Expr}
 use Rattle.cfj_model.specs.declared.feature_model.FeatureModel.{FeatureModel}
 
 -- a feature model, and classes whose nodes may be marked with its features
@@ -15,7 +20,8 @@ pub record ProductLine : Type 0 where
   pub model : FeatureModel
   pub classes : List Class
 
--- the limits of a project; `most_in_ctor` is that of each list of a constructor
+-- The limits of a project: `most_in_ctor` is that of each list of a constructor, `most_params` that of a method's parameters,
+-- `most_nodes` that of a body, and `most_nest` that of bodies and constraints.
 abbrev pub most_features : ℕ
 most_features = 128
 
@@ -27,6 +33,21 @@ most_fields = 64
 
 abbrev pub most_in_ctor : ℕ
 most_in_ctor = 1024
+
+abbrev pub most_methods : ℕ
+most_methods = 256
+
+abbrev pub most_params : ℕ
+most_params = 16
+
+abbrev pub most_nodes : ℕ
+most_nodes = 1024
+
+abbrev pub most_nest : ℕ
+most_nest = 64
+
+abbrev pub most_formula_nodes : ℕ
+most_formula_nodes = 4096
 
 abbrev pub most_size : ℕ
 most_size = 1000000
@@ -52,10 +73,6 @@ abbrev pub rise_from : ℕ → List ℕ → Bool
 rise_from least [] = true
 rise_from least (s ∷ ss) = nat_le least s && rise_from (s + 1) ss
 
--- all colours are features of a model with so many
-abbrev pub are_known : ℕ → ℕ → Bool
-are_known features colors = nat_lt colors (2 ^ features)
-
 abbrev pub is_field : ℕ → Field → Bool
 is_field features f = f.alt == 0 && are_known features f.colors && is_short_identifier f.of && is_short_identifier f.name
 
@@ -65,8 +82,9 @@ is_param features p = are_known features p.colors && is_short_identifier p.of &&
 abbrev pub is_sent : ℕ → Sent → Bool
 is_sent features s = are_known features s.colors && is_short_identifier s.name
 
-abbrev pub are_params : ℕ → List Param → Bool
-are_params features ps = nat_le (length ps) most_in_ctor && are_distinct (map (λ p. p.name) ps) && rise_from 0 (map (λ p. p.slot) ps) && list_all (is_param features) ps
+-- parameters, at most so many
+abbrev pub are_params : ℕ → ℕ → List Param → Bool
+are_params most features ps = nat_le (length ps) most && are_distinct (map (λ p. p.name) ps) && rise_from 0 (map (λ p. p.slot) ps) && list_all (is_param features) ps
 
 abbrev pub are_sents : ℕ → List Sent → Bool
 are_sents features ss = nat_le (length ss) most_in_ctor && rise_from 0 (map (λ s. s.slot) ss) && list_all (is_sent features) ss
@@ -75,28 +93,51 @@ abbrev pub are_fields : ℕ → List Field → Bool
 are_fields features fs = nat_le (length fs) most_fields && are_distinct (map (λ f. f.name) fs) && list_all (is_field features) fs
 
 abbrev pub is_ctor : ℕ → Constructor → Bool
-is_ctor features c = are_params features c.params && are_sents features c.sends && are_sents features c.assigns
+is_ctor features c = are_params most_in_ctor features c.params && are_sents features c.sends && are_sents features c.assigns
+
+abbrev pub is_body : ℕ → Expr → Bool
+is_body features e = is_named features e && nat_le (node_count e) most_nodes && nat_le (nest e) most_nest && rise_from 0 (slots e)
+
+unfoldable pub is_method : ℕ → Method → Bool
+is_method features m = m.alt == 0 && are_known features m.colors && is_short_identifier m.result && is_short_identifier m.name && are_params most_params features m.params && is_body features m.body
+
+abbrev pub are_methods : ℕ → List Method → Bool
+are_methods features ms = nat_le (length ms) most_methods && are_distinct (map (λ m. m.name) ms) && list_all (is_method features) ms
 
 -- what a project keeps of a class by itself
 unfoldable pub is_class : ℕ → Class → Bool
-is_class features k = is_short_identifier k.name && not (bytes_eq k.name object) && are_known features k.colors && is_short_identifier k.parent && are_fields features k.fields && is_ctor features k.ctor
+is_class features k = is_short_identifier k.name && not (bytes_eq k.name object) && are_known features k.colors && is_short_identifier k.parent && are_fields features k.fields && is_ctor features k.ctor && are_methods features k.methods
 
--- the classes, fields, constructor parameters, sent names and assignments together
+-- a method, its parameters and its nodes
+abbrev pub method_size : Method → ℕ
+method_size m = 1 + (length m.params + node_count m.body)
+
+-- the classes, fields, methods, parameters, sent names, assignments and expression nodes together
 abbrev pub class_size : Class → ℕ
-class_size k = 1 + (length k.fields + (length k.ctor.params + (length k.ctor.sends + length k.ctor.assigns)))
+class_size k = 1 + (length k.fields + (length k.ctor.params + (length k.ctor.sends + (length k.ctor.assigns + sum_by method_size k.methods))))
 
 abbrev pub size : List Class → ℕ
 size = sum_by class_size
+
+-- a constraint over so many features
+abbrev pub is_constraint : ℕ → Formula → Bool
+is_constraint features f = is_over features f && nat_le (formula_nest f) most_nest
 
 -- what a project's type keeps
 pub record IsProject (p : ProductLine) : Type 0 where
   pub few_features : nat_le (length p.model.features) most_features ≡ true
   pub features_named : list_all is_short_identifier p.model.features ≡ true
   pub features_distinct : are_distinct p.model.features ≡ true
+  pub few_formula_nodes : nat_le (sum_by formula_node_count p.model.constraints) most_formula_nodes ≡ true
+  pub each_constraint : list_all (is_constraint (length p.model.features)) p.model.constraints ≡ true
   pub few_classes : nat_le (length p.classes) most_classes ≡ true
   pub classes_distinct : are_distinct (map (λ k. k.name) p.classes) ≡ true
   pub each_class : list_all (is_class (length p.model.features)) p.classes ≡ true
   pub fits : nat_le (size p.classes) most_size ≡ true
+
+-- no node of a method is marked
+unfoldable pub is_plain_method : Method → Bool
+is_plain_method m = m.colors == 0 && list_all (λ (p : Param). p.colors == 0) m.params && is_bare m.body
 
 -- no node of a class is marked
 unfoldable pub is_plain_class : Class → Bool
@@ -106,6 +147,7 @@ is_plain_class k =
     && list_all (λ (p : Param). p.colors == 0) k.ctor.params
     && list_all (λ (s : Sent). s.colors == 0) k.ctor.sends
     && list_all (λ (a : Sent). a.colors == 0) k.ctor.assigns
+    && list_all is_plain_method k.methods
 
 abbrev pub is_plain : List Class → Bool
 is_plain = list_all is_plain_class

@@ -1,15 +1,22 @@
 -- Presence and projection, after CIDE (Kästner, Apel, Kuhlemann, ICSE 2008): a variant is made by removing each node that is
 -- not present under a selection.
-use Rattle.std.specs.Prelude.{ℕ, Bool, List, [], map, filter, bit_or}
+use Rattle.std.specs.Prelude.{ℕ, Bool, if◌then◌else◌, List, [], ◌∷◌, map, filter, flat_map, bit_or}
 use Rattle.cfj_model.specs.declared.class.Field.{Field}
 use Rattle.cfj_model.specs.declared.class.Param.{Param}
 use Rattle.cfj_model.specs.declared.class.Sent.{Sent}
 use Rattle.cfj_model.specs.declared.class.Constructor.{Constructor}
+use Rattle.cfj_model.specs.declared.class.Method.{Method}
 use Rattle.cfj_model.specs.declared.class.Class.{Class}
+use Rattle.cfj_model.specs.declared.expr.Arg.{Arg, Arg-F}
+use Rattle.cfj_model.specs.declared.expr.Expr.{Expr}
+use Rattle.cfj_model.specs.declared.expr.Expr.TheOpen.{Expr-F}
+use Rattle.cfj_model.specs.declared.expr.Expr.TheFolds.{fold-Expr}
+use Rattle.cfj_model.specs.declared.expr.Expr.TheVariants as e
 use Rattle.cfj_model.specs.ProductLines.{ProductLine}
 use Rattle.cfj_model.specs.Selections.{Chosen, is_subset}
 
--- A node's presence is its own colours and those of the optional nodes round it: of a node in a class, the class's too.
+-- A node's presence is its own colours and those of the optional nodes round it: of a node in a class, the class's too; of an
+-- argument, those of the arguments and the method round it.
 abbrev pub presence_of : ℕ → ℕ → ℕ
 presence_of around own = bit_or around own
 
@@ -41,11 +48,42 @@ abbrev pub projected_ctor : Chosen → ℕ → Constructor → Constructor
 projected_ctor s around c =
     record { params = present_params s around c.params; sends = present_sents s around c.sends; assigns = present_sents s around c.assigns }
 
+-- an expression without the arguments that are not present, by the colours round it
+abbrev pub projected_step : Chosen → Expr-F (ℕ → Expr) (ℕ → List Arg) → ℕ → Expr
+projected_step s (Expr-F.Var slot name) around = e.Var slot name
+projected_step s (Expr-F.Get slot on field) around = e.Get slot (on around) field
+projected_step s (Expr-F.Call slot on method args) around = e.Call slot (on around) method (flat_map (λ a. a around) args)
+projected_step s (Expr-F.New slot class args) around = e.New slot class (flat_map (λ a. a around) args)
+projected_step s (Expr-F.Cast slot class on) around = e.Cast slot class (on around)
+
+-- the argument without its colours where it is present, or nothing
+abbrev pub projected_arg_step : Chosen → Arg-F (ℕ → Expr) (ℕ → List Arg) → ℕ → List Arg
+projected_arg_step s a around =
+    if is_present s (presence_of around a.colors) then record { colors = 0; expr = a.expr (presence_of around a.colors) } ∷ [] else []
+
+abbrev pub projected_expr : Chosen → ℕ → Expr → Expr
+projected_expr s around x = fold-Expr (ℕ → Expr) (ℕ → List Arg) (projected_step s) (projected_arg_step s) x around
+
+-- a method with its present parameters and arguments, without its colours
+abbrev pub projected_method : Chosen → ℕ → Method → Method
+projected_method s around m =
+    record {
+      alt = m.alt;
+      colors = 0;
+      result = m.result;
+      name = m.name;
+      params = present_params s (presence_of around m.colors) m.params;
+      body = projected_expr s (presence_of around m.colors) m.body;
+    }
+
+abbrev pub present_methods : Chosen → ℕ → List Method → List Method
+present_methods s around ms = map (projected_method s around) (filter (λ m. is_present s (presence_of around m.colors)) ms)
+
 abbrev pub projected_class : Chosen → Class → Class
 projected_class s k =
-    record { name = k.name; colors = 0; parent = k.parent; fields = present_fields s k.colors k.fields; ctor = projected_ctor s k.colors k.ctor }
+    record { name = k.name; colors = 0; parent = k.parent; fields = present_fields s k.colors k.fields; ctor = projected_ctor s k.colors k.ctor; methods = present_methods s k.colors k.methods }
 
 -- the variant of a selection: the present nodes, without features, constraints and colours
 unfoldable pub projected : Chosen → ProductLine → ProductLine
 projected s line =
-    record { model = record { features = [] }; classes = map (projected_class s) (filter (λ k. is_present s k.colors) line.classes) }
+    record { model = record { features = []; constraints = [] }; classes = map (projected_class s) (filter (λ k. is_present s k.colors) line.classes) }

@@ -1,4 +1,5 @@
 use crate::colors::Colors;
+use crate::expr::Expr;
 use crate::items::Items;
 use crate::name::Name;
 
@@ -50,6 +51,23 @@ pub struct Constructor {
     pub assigns: Items<Sent>,
 }
 
+/// A method.
+#[derive(Debug, Drop)]
+pub struct Method {
+    /// How many methods of this name stand before it in its class.
+    pub alt: u16,
+    /// The features it is marked with.
+    pub colors: Colors,
+    /// The type of its result.
+    pub result: Name,
+    /// Its name.
+    pub name: Name,
+    /// Its parameters.
+    pub params: Items<Param>,
+    /// The expression that it returns.
+    pub body: Expr,
+}
+
 /// A class.
 #[derive(Debug, Drop)]
 pub struct Class {
@@ -63,4 +81,6 @@ pub struct Class {
     pub fields: Items<Field>,
     /// Its constructor.
     pub ctor: Constructor,
+    /// Its methods.
+    pub methods: Items<Method>,
 }

@@ -21,8 +21,13 @@ pub struct Project {
 
 impl Model for Project {
     ghost use Rattle.cfj_model.specs.ProductLines.{ProductLine, IsProject};
+    ghost use Rattle.cfj_model.specs.contracts.expr.Expr as expr;
+    ghost use Rattle.cfj_model.specs.contracts.formula.Formula as formula;
+    ghost use Rattle.std.specs.Coded.{codes};
 
     ghost Value = { ProductLine };
+
+    ghost coded = { Prim.hlevel (codes, expr.the_row.coded, formula.the_row.coded) };
 
     ghost view = { λ p. record { model = p.model.value; classes = p.classes } };
 

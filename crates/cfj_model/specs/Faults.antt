@@ -1,5 +1,5 @@
--- The texts of projects, and the first fault of any other text.
-use Rattle.std.specs.Prelude.{◌≡◌, ℕ, true, false, List, [], ◌∷◌, ◌++◌, length, Option, Some, None}
+-- The texts of a language, and the first fault of any other text.
+use Rattle.std.specs.Prelude.{◌≡◌, ℕ, true, false, List, [], ◌∷◌, ◌++◌, length, take, Option, Some, None}
 use Rattle.std.specs.Str.{chars, IsUtf8, IsValidUpTo}
 use Rattle.cfj_model.specs.declared.fault.FaultKind.{FaultKind}
 use Rattle.cfj_model.specs.declared.fault.FaultKind.TheVariants.{BadChar, OpenComment, Unexpected, Reserved, NotUtf8}
@@ -8,63 +8,94 @@ use Rattle.cfj_model.specs.Lexemes.{Lexed, Found, AtEnd, NoToken, NoClose, next_
 use Rattle.cfj_model.specs.Tokens.{Token, Id, End, Takes, token_seen, place_of, is_reserved_word}
 use Rattle.cfj_model.specs.ProductLines.{ProductLine}
 use Rattle.cfj_model.specs.Grammar.{Tree, spell, value}
-use Rattle.cfj_model.specs.Roles.{Role, plain, roles, nothing, tallied, broken_by, AreWithin}
+use Rattle.cfj_model.specs.TreeRoles.{roles}
+use Rattle.cfj_model.specs.Roles.{Role, Tally, plain, nothing, tallied, broken_by, AreWithin, are_settled}
 
--- The text is one of the grammar, within the limits, and stands for this product line.
-pub record IsTextOf (text : List ℕ) (line : ProductLine) : Type 0 where
+-- A language: its trees, the tokens that a tree spells, their roles, the value that a tree stands for, and what counts as met
+-- before a text begins.
+pub record Language (V : Type 0) : Type 1 where
+  pub Tree : Type 0
+  pub spell : Tree → List Token → List Token
+  pub roles : Tree → List Role → List Role
+  pub value : Tree → V
+  pub met : Tally
+
+-- whole projects
+abbrev pub projects : Language ProductLine
+projects = record { Tree = Tree; spell = spell; roles = roles; value = value; met = nothing }
+
+-- The text is one of the language, within the limits, and stands for this value.
+pub record IsTextOf {V : Type 0} (l : Language V) (text : List ℕ) (v : V) : Type 0 where
   pub utf8 : IsUtf8 text
-  pub tree : Tree
+  pub tree : l.Tree
   pub rest : List ℕ
-  pub spelled : Takes (chars text) (spell tree []) rest
+  pub spelled : Takes (chars text) (l.spell tree []) rest
   pub ended : next_lexeme rest ≡ AtEnd
-  pub within : AreWithin nothing (roles tree [])
-  pub valued : line ≡ value tree
+  pub within : AreWithin l.met (l.roles tree [])
+  pub valued : v ≡ l.value tree
 
--- A text of the grammar begins with these tokens, in these roles.
-pub record Begins (front : List Token) (rs : List Role) : Type 0 where
-  pub tree : Tree
+-- A text of the language begins with these tokens, in these roles.
+pub record Begins {V : Type 0} (l : Language V) (front : List Token) (rs : List Role) : Type 0 where
+  pub tree : l.Tree
   pub more : List Token
   pub others : List Role
-  pub text : spell tree (End ∷ []) ≡ front ++ more
-  pub in_roles : roles tree (plain ∷ []) ≡ rs ++ others
+  pub text : l.spell tree (End ∷ []) ≡ front ++ more
+  pub in_roles : l.roles tree (plain ∷ []) ≡ rs ++ others
   pub each : length rs ≡ length front
 
--- a text of the grammar can go on from here
-abbrev pub CanGoOn : List Token → Type 0
-CanGoOn front = (rs : List Role) × Begins front rs
+-- a text of the language can go on from here
+abbrev pub CanGoOn : {V : Type 0} → Language V → List Token → Type 0
+CanGoOn l front = (rs : List Role) × Begins l front rs
 
 -- How a token that can't stand here is named: Reserved where it is a reserved word and some identifier could stand in its
 -- place, else Unexpected.
-pub data IsMisplaced (front : List Token) (t : Token) : FaultKind → Type 0 where
-  reserved : is_reserved_word t ≡ true → (w : List ℕ) → is_identifier w ≡ true → CanGoOn (front ++ Id w ∷ []) → IsMisplaced front t Reserved
-  other : is_reserved_word t ≡ false → IsMisplaced front t Unexpected
-  no_name : ((w : List ℕ) → is_identifier w ≡ true → CanGoOn (front ++ Id w ∷ []) → ⊥) → IsMisplaced front t Unexpected
+pub data IsMisplaced {V : Type 0} (l : Language V) (front : List Token) (t : Token) : FaultKind → Type 0 where
+  reserved : is_reserved_word t ≡ true → (w : List ℕ) → is_identifier w ≡ true → CanGoOn l (front ++ Id w ∷ []) → IsMisplaced l front t Reserved
+  other : is_reserved_word t ≡ false → IsMisplaced l front t Unexpected
+  no_name : ((w : List ℕ) → is_identifier w ≡ true → CanGoOn l (front ++ Id w ∷ []) → ⊥) → IsMisplaced l front t Unexpected
 
--- What is wrong at a token: no text of the grammar can go on with it, or it breaks a rule or a limit.
-pub data IsFaultAt (front : List Token) (rs : List Role) (t : Token) : FaultKind → Type 0 where
-  misplaced : (kind : FaultKind) → (CanGoOn (front ++ t ∷ []) → ⊥) → IsMisplaced front t kind → IsFaultAt front rs t kind
-  breaking : (kind : FaultKind) (r : Role) → Begins (front ++ t ∷ []) (rs ++ r ∷ []) → broken_by (tallied nothing rs) r ≡ Some kind → IsFaultAt front rs t kind
-
--- A front of a text that can go on and breaks nothing.
-pub record Front (text : List ℕ) : Type 0 where
+-- The tokens before the rest of a text, with which a text of the language can begin in these roles. A bracket is a cast's only
+-- where the tokens that make it one stand among them.
+pub record Front {V : Type 0} (l : Language V) (text : List ℕ) : Type 0 where
   pub utf8 : IsUtf8 text
   pub tokens : List Token
   pub rest : List ℕ
   pub taken : Takes (chars text) tokens rest
   pub roles : List Role
-  pub begins : Begins tokens roles
-  pub within : AreWithin nothing roles
+  pub begins : Begins l tokens roles
+  pub settled : are_settled roles ≡ true
 
 -- a lexical fault, with the text from its place on
 abbrev pub lexical_fault : Lexed → Option (FaultKind × List ℕ)
 lexical_fault (NoToken from) = Some (BadChar, from)
 lexical_fault (NoClose from) = Some (OpenComment, from)
-lexical_fault (Found l from rest) = None
+lexical_fault (Found t from rest) = None
 lexical_fault AtEnd = None
 
--- The first fault of a text, and its place. A byte that belongs to no character comes before all others; else all before the
--- place can go on and breaks nothing.
-pub data IsFirstFault (text : List ℕ) : ℕ → FaultKind → Type 0 where
-  no_text : (at : ℕ) → (IsUtf8 text → ⊥) → IsValidUpTo text at → IsFirstFault text at NotUtf8
-  no_lexeme : (front : Front text) (kind : FaultKind) (from : List ℕ) → lexical_fault (next_lexeme front.rest) ≡ Some (kind, from) → IsFirstFault text (place_of text from) kind
-  no_place : (front : Front text) (t : Token) (from : List ℕ) (kind : FaultKind) → token_seen (next_lexeme front.rest) ≡ Some (t, from) → IsFaultAt front.tokens front.roles t kind → IsFirstFault text (place_of text from) kind
+-- What stands behind the longest front: a lexical fault, a token that no text of the language has there, or the end of a text
+-- of the language.
+pub data IsLongest {V : Type 0} (l : Language V) {text : List ℕ} (front : Front l text) : Type 0 where
+  before_no_lexeme : (kind : FaultKind) (from : List ℕ) → lexical_fault (next_lexeme front.rest) ≡ Some (kind, from) → IsLongest l front
+  before_misplaced : (t : Token) (from : List ℕ) → token_seen (next_lexeme front.rest) ≡ Some (t, from) → (CanGoOn l (front.tokens ++ t ∷ []) → ⊥) → IsLongest l front
+  before_the_end : next_lexeme front.rest ≡ AtEnd → CanGoOn l (front.tokens ++ End ∷ []) → IsLongest l front
+
+-- Behind so many tokens of a text its rest, `from`, begins with another.
+pub record StandsBehind (text : List ℕ) (before : List Token) (from : List ℕ) : Type 0 where
+  pub t : Token
+  pub rest : List ℕ
+  pub taken : Takes (chars text) before rest
+  pub seen : token_seen (next_lexeme rest) ≡ Some (t, from)
+
+-- The first fault of a text, and its place. A byte that belongs to no character comes before all others. Else it is the first
+-- token of the longest front that breaks a rule or a limit; where none does, what stands behind that front.
+pub data IsFirstFault {V : Type 0} (l : Language V) (text : List ℕ) : ℕ → FaultKind → Type 0 where
+  no_text : (at : ℕ) → (IsUtf8 text → ⊥) → IsValidUpTo text at → IsFirstFault l text at NotUtf8
+  breaking : (front : Front l text) → IsLongest l front
+      → (before after : List Role) (r : Role) → front.roles ≡ before ++ r ∷ after → AreWithin l.met before
+      → (kind : FaultKind) → broken_by (tallied l.met before) r ≡ Some kind
+      → (from : List ℕ) → StandsBehind text (take (length before) front.tokens) from → IsFirstFault l text (place_of text from) kind
+  no_lexeme : (front : Front l text) → AreWithin l.met front.roles
+      → (kind : FaultKind) (from : List ℕ) → lexical_fault (next_lexeme front.rest) ≡ Some (kind, from) → IsFirstFault l text (place_of text from) kind
+  no_place : (front : Front l text) → AreWithin l.met front.roles
+      → (t : Token) (from : List ℕ) → token_seen (next_lexeme front.rest) ≡ Some (t, from) → (CanGoOn l (front.tokens ++ t ∷ []) → ⊥)
+      → (kind : FaultKind) → IsMisplaced l front.tokens t kind → IsFirstFault l text (place_of text from) kind

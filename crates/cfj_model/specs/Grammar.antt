@@ -5,9 +5,13 @@ use Rattle.cfj_model.specs.declared.class.Field.{Field}
 use Rattle.cfj_model.specs.declared.class.Param.{Param}
 use Rattle.cfj_model.specs.declared.class.Sent.{Sent}
 use Rattle.cfj_model.specs.declared.class.Constructor.{Constructor}
+use Rattle.cfj_model.specs.declared.class.Method.{Method}
 use Rattle.cfj_model.specs.declared.class.Class.{Class}
 use Rattle.cfj_model.specs.ProductLines.{ProductLine}
-use Rattle.cfj_model.specs.Tokens.{Token, Id, ClassWord, ExtendsWord, SuperWord, ThisWord, OpenBrace, CloseBrace, OpenParen, CloseParen, Semicolon, Comma, Dot, Equals, At}
+use Rattle.cfj_model.specs.ExpressionGrammar.{ExprTree, spell_expr, value_expr}
+use Rattle.cfj_model.specs.FormulaGrammar.{IffTree, spell_iff, value_iff}
+use Rattle.cfj_model.specs.Marks.{in_order, each_behind, separated, spell_marks, colors_of}
+use Rattle.cfj_model.specs.Tokens.{Token, Id, ClassWord, ExtendsWord, SuperWord, ThisWord, ReturnWord, OpenBrace, CloseBrace, OpenParen, CloseParen, Semicolon, Comma, Dot, Equals, At}
 
 -- marks, a type and a name: of a field, or of a parameter
 pub record Declared : Type 0 where
@@ -20,6 +24,13 @@ pub record Named : Type 0 where
   pub marks : List (List ℕ)
   pub name : List ℕ
 
+pub record MethodTree : Type 0 where
+  pub marks : List (List ℕ)
+  pub result : List ℕ
+  pub name : List ℕ
+  pub params : List Declared
+  pub body : ExprTree
+
 -- The constructor's name is the class's, and so isn't told twice. The same holds of both names of an assignment.
 pub record ClassTree : Type 0 where
   pub marks : List (List ℕ)
@@ -29,30 +40,21 @@ pub record ClassTree : Type 0 where
   pub params : List Declared
   pub sends : List Named
   pub assigns : List Named
+  pub methods : List MethodTree
 
--- a project: its features, in a line where there are any, and its classes
+-- a project: its features, in a line where there are any, its constraints and its classes
 pub record Tree : Type 0 where
   pub features : List (List ℕ)
+  pub constraints : List IffTree
   pub classes : List ClassTree
-
--- {X}, and what follows
-abbrev pub in_order : {A B : Type 0} → (A → List B → List B) → List A → List B → List B
-in_order spell [] rest = rest
-in_order spell (x ∷ xs) rest = spell x (in_order spell xs rest)
-
--- {"," X}, and what follows
-abbrev pub each_behind : {A B : Type 0} → B → (A → List B → List B) → List A → List B → List B
-each_behind comma spell [] rest = rest
-each_behind comma spell (x ∷ xs) rest = comma ∷ spell x (each_behind comma spell xs rest)
-
--- list(X): nothing, or X {"," X}; and what follows
-abbrev pub separated : {A B : Type 0} → B → (A → List B → List B) → List A → List B → List B
-separated comma spell [] rest = rest
-separated comma spell (x ∷ xs) rest = spell x (each_behind comma spell xs rest)
 
 -- the word that begins a feature line; it is an identifier like any other
 abbrev pub features_word : List ℕ
 features_word = codes "features"
+
+-- the word that begins a constraint; it is an identifier too
+abbrev pub constraint_word : List ℕ
+constraint_word = codes "constraint"
 
 -- id
 abbrev pub spell_name : List ℕ → List Token → List Token
@@ -62,14 +64,6 @@ spell_name w rest = Id w ∷ rest
 abbrev pub spell_features : List (List ℕ) → List Token → List Token
 spell_features [] rest = rest
 spell_features (f ∷ fs) rest = Id features_word ∷ (Id f ∷ each_behind Comma spell_name fs (Semicolon ∷ rest))
-
--- "@" id
-abbrev pub spell_mark : List ℕ → List Token → List Token
-spell_mark m rest = At ∷ (Id m ∷ rest)
-
--- marks: {"@" id}
-abbrev pub spell_marks : List (List ℕ) → List Token → List Token
-spell_marks = in_order spell_mark
 
 -- field: marks id id ";"
 abbrev pub spell_field : Declared → List Token → List Token
@@ -102,39 +96,36 @@ spell_ctor k rest =
     ∷ (Semicolon
     ∷ in_order spell_assign k.assigns (CloseBrace ∷ rest))))))))
 
--- class: marks "class" id "extends" id "{" {field} ctor "}"
+-- method: marks id id "(" list(param) ")" "{" "return" expr ";" "}"
+abbrev pub spell_method : MethodTree → List Token → List Token
+spell_method m rest =
+    spell_marks m.marks
+    (Id m.result
+    ∷ (Id m.name
+    ∷ (OpenParen
+    ∷ separated Comma spell_param m.params
+    (CloseParen ∷ (OpenBrace ∷ (ReturnWord ∷ spell_expr m.body (Semicolon ∷ (CloseBrace ∷ rest))))))))
+
+-- "constraint" iff ";"
+abbrev pub spell_constraint : IffTree → List Token → List Token
+spell_constraint x rest = Id constraint_word ∷ spell_iff x (Semicolon ∷ rest)
+
+-- class: marks "class" id "extends" id "{" {field} ctor {method} "}"
 abbrev pub spell_class : ClassTree → List Token → List Token
 spell_class k rest =
     spell_marks k.marks
     (ClassWord
     ∷ (Id k.name
-    ∷ (ExtendsWord ∷ (Id k.parent ∷ (OpenBrace ∷ in_order spell_field k.fields (spell_ctor k (CloseBrace ∷ rest)))))))
+    ∷ (ExtendsWord ∷ (Id k.parent ∷ (OpenBrace ∷ in_order spell_field k.fields (spell_ctor k (in_order spell_method k.methods (CloseBrace ∷ rest))))))))
 
--- project: ["features" id {"," id} ";"] {class}
+-- project: ["features" id {"," id} ";"] {"constraint" iff ";"} {class}
 abbrev pub spell : Tree → List Token → List Token
-spell tree rest = spell_features tree.features (in_order spell_class tree.classes rest)
+spell tree rest = spell_features tree.features (in_order spell_constraint tree.constraints (in_order spell_class tree.classes rest))
 
 -- Items with their places in their list, from a number on.
 abbrev pub numbered : {A B : Type 0} → (ℕ → A → B) → ℕ → List A → List B
 numbered f n [] = []
 numbered f n (x ∷ xs) = f n x ∷ numbered f (n + 1) xs
-
--- the set of one feature, by its name; of a name that isn't a feature the empty set
-abbrev pub color_at : Option ℕ → ℕ
-color_at None = 0
-color_at (Some feature) = 2 ^ feature
-
-abbrev pub color_of : List (List ℕ) → List ℕ → ℕ
-color_of features m = color_at (position (λ f. bytes_eq f m) features)
-
--- a set and the features of these marks
-abbrev pub colored : List (List ℕ) → ℕ → List (List ℕ) → ℕ
-colored features colors [] = colors
-colored features colors (m ∷ ms) = colored features (bit_or colors (color_of features m)) ms
-
--- the set of the features that a node is marked with, whatever their order
-abbrev pub colors_of : List (List ℕ) → List (List ℕ) → ℕ
-colors_of features = colored features 0
 
 abbrev pub value_field : List (List ℕ) → Declared → Field
 value_field features d = record { alt = 0; colors = colors_of features d.marks; of = d.of; name = d.name }
@@ -153,10 +144,21 @@ value_ctor features k =
       assigns = numbered (value_sent features) 0 k.assigns;
     }
 
+abbrev pub value_method : List (List ℕ) → MethodTree → Method
+value_method features m =
+    record {
+      alt = 0;
+      colors = colors_of features m.marks;
+      result = m.result;
+      name = m.name;
+      params = numbered (value_param features) 0 m.params;
+      body = (value_expr features 0 m.body).0;
+    }
+
 abbrev pub value_class : List (List ℕ) → ClassTree → Class
 value_class features k =
-    record { name = k.name; colors = colors_of features k.marks; parent = k.parent; fields = map (value_field features) k.fields; ctor = value_ctor features k; methods = [] }
+    record { name = k.name; colors = colors_of features k.marks; parent = k.parent; fields = map (value_field features) k.fields; ctor = value_ctor features k; methods = map (value_method features) k.methods }
 
 -- the product line that a tree stands for; it is numbered
 abbrev pub value : Tree → ProductLine
-value tree = record { model = record { features = tree.features; constraints = [] }; classes = map (value_class tree.features) tree.classes }
+value tree = record { model = record { features = tree.features; constraints = map (value_iff tree.features) tree.constraints }; classes = map (value_class tree.features) tree.classes }

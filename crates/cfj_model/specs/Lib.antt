@@ -1,11 +1,14 @@
 pub mod Characters
+pub mod ExpressionGrammar
 pub mod Expressions
 pub mod FaultTexts
 pub mod Faults
+pub mod FormulaGrammar
 pub mod Formulas
 pub mod Grammar
 pub mod Lexemes
 pub mod Logs
+pub mod Marks
 pub mod Names
 pub mod Print
 pub mod ProductLines
@@ -14,5 +17,6 @@ pub mod Roles
 pub mod Selections
 pub mod Sides
 pub mod Tokens
+pub mod TreeRoles
 pub mod UnitClauses
 pub mod formers

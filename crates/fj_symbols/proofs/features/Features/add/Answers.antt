@@ -1,9 +1,9 @@
 use Rattle.std.proofs.Common.{◌≡◌, ℕ, true, cond, is_some, List, [], ◌∷◌, ◌++◌, length, Some, None, Bor, sym, ap, subst, ◌∙◌}
 use Rattle.std.specs.Map.{lookup}
 use Rattle.std.specs.Str.{bytes_eq}
-use Rattle.fj_parser.specs.Places.{ArePlaced}
-use Rattle.fj_parser.proofs.FeaturePlaces.{copied-some, none-where, placed-again, placed-new}
-use Rattle.fj_parser.proofs.features.Features.add.Goals as goal
+use Rattle.fj_symbols.specs.Places.{ArePlaced}
+use Rattle.fj_symbols.proofs.FeaturePlaces.{copied-some, none-where, placed-again, placed-new}
+use Rattle.fj_symbols.proofs.features.Features.add.Goals as goal
 
 pub invariant_of-self-inside-then-is_some : goal.invariant_of-self-inside-then-is_some
 invariant_of-self-inside-then-is_some c =

@@ -1,7 +1,9 @@
 ghost use Rattle.std.specs.Prelude.{◌≡◌, true, false};
 ghost use Rattle.cfj_model.specs.Names.{is_reserved};
 ghost use Rattle.cfj_model.specs.Tokens.{is_reserved_word, mark_token, word_token};
-ghost use Rattle.fj_parser.specs.Views.{rare_token, symbol_seen};
+ghost use Rattle.fj_symbols.specs.Views.{rare_token, symbol_seen, token_read};
+
+use fj_lexer::{Token, TokenKind};
 
 /// A token as the grammar knows it.
 #[derive(Clone, Copy)]
@@ -55,9 +57,21 @@ impl<'a> Symbol<'a> {
     }
 }
 
+/// What a token of the lexer is.
+pub fn symbol_of<'a>(token: Token<'a>) -> Symbol<'a>
+    requires { token.kind ≡ TokenKind.Reserved → is_reserved token.text.now ≡ true }
+    ensures { symbol_seen result ≡ token_read token.entry.kind token.entry.text.now }
+{
+    match token.kind {
+        TokenKind::Word => Symbol::Id(token.text),
+        TokenKind::Reserved => reserved_symbol(token.text),
+        TokenKind::Mark => mark_symbol(token.text),
+    }
+}
+
 /// What a reserved word is.
 #[tactic(auto, unfolding(cfj_model::specs::Tokens::word_token))]
-pub fn reserved_symbol(word: &str) -> Symbol<'static>
+fn reserved_symbol(word: &str) -> Symbol<'static>
     requires { is_reserved word.now ≡ true }
     ensures { symbol_seen result ≡ word_token word.now }
 {
@@ -84,7 +98,7 @@ pub fn reserved_symbol(word: &str) -> Symbol<'static>
 
 /// What a punctuation text is.
 #[tactic(auto, unfolding(cfj_model::specs::Tokens::mark_token))]
-pub fn mark_symbol(mark: &str) -> Symbol<'static>
+fn mark_symbol(mark: &str) -> Symbol<'static>
     ensures { symbol_seen result ≡ mark_token mark.now }
 {
     if mark == "{" {

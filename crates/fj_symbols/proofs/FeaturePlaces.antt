@@ -7,7 +7,7 @@ use Rattle.std.specs.Option.{option_copied}
 use Rattle.std.specs.Str.{bytes_eq}
 use Rattle.std.proofs.lemmas.Iterator.Adapters.{position_from-zero}
 use Rattle.std.proofs.lemmas.Slice.Eq.{bytes_eq-Decides}
-use Rattle.fj_parser.specs.Places.{ArePlaced}
+use Rattle.fj_symbols.specs.Places.{ArePlaced}
 
 -- the first place that passes, or that of an item behind all
 abbrev pub or_last : Option ℕ → Bool → ℕ → Option ℕ

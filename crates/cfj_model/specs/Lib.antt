@@ -19,4 +19,5 @@ pub mod Sides
 pub mod Tokens
 pub mod TreeRoles
 pub mod UnitClauses
+pub mod Validity
 pub mod formers

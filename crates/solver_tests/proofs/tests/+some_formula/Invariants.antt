@@ -1,0 +1,4 @@
+use Rattle.solver_tests.proofs.tests.+some_formula.Given as goal
+
+abbrev pub decreases-some_formula : goal.decreases-some_formula
+decreases-some_formula l = l.depth

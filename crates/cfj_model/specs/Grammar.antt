@@ -1,6 +1,5 @@
 -- The grammar of projects: concrete-syntax trees, the tokens that a tree spells, and the product line that it stands for.
-use Rattle.std.specs.Prelude.{ℕ, ◌+◌, ◌^◌, List, [], ◌∷◌, map, position, bit_or, codes, Option, Some, None}
-use Rattle.std.specs.Str.{bytes_eq}
+use Rattle.std.specs.Prelude.{ℕ, ◌+◌, List, [], ◌∷◌, map, codes}
 use Rattle.cfj_model.specs.declared.class.Field.{Field}
 use Rattle.cfj_model.specs.declared.class.Param.{Param}
 use Rattle.cfj_model.specs.declared.class.Sent.{Sent}
@@ -11,7 +10,7 @@ use Rattle.cfj_model.specs.ProductLines.{ProductLine}
 use Rattle.cfj_model.specs.ExpressionGrammar.{ExprTree, spell_expr, value_expr}
 use Rattle.cfj_model.specs.FormulaGrammar.{IffTree, spell_iff, value_iff}
 use Rattle.cfj_model.specs.Marks.{in_order, each_behind, separated, spell_marks, colors_of}
-use Rattle.cfj_model.specs.Tokens.{Token, Id, ClassWord, ExtendsWord, SuperWord, ThisWord, ReturnWord, OpenBrace, CloseBrace, OpenParen, CloseParen, Semicolon, Comma, Dot, Equals, At}
+use Rattle.cfj_model.specs.Tokens.{Token, Id, ClassWord, ExtendsWord, SuperWord, ThisWord, ReturnWord, OpenBrace, CloseBrace, OpenParen, CloseParen, Semicolon, Comma, Dot, Equals}
 
 -- marks, a type and a name: of a field, or of a parameter
 pub record Declared : Type 0 where

@@ -6,8 +6,10 @@ pub mod Faults
 pub mod FormulaGrammar
 pub mod Formulas
 pub mod Grammar
+pub mod Judging
 pub mod Lexemes
 pub mod Logs
+pub mod LookUps
 pub mod Marks
 pub mod Names
 pub mod Print
@@ -16,8 +18,10 @@ pub mod Projection
 pub mod Roles
 pub mod Selections
 pub mod Sides
+pub mod Sites
 pub mod Tokens
 pub mod TreeRoles
+pub mod Typing
 pub mod UnitClauses
 pub mod Validity
 pub mod formers

@@ -21,6 +21,7 @@ mod log;
 mod name;
 mod project;
 mod selection;
+mod site;
 mod text;
 
 pub use boxed::Boxed;
@@ -39,4 +40,5 @@ pub use log::Log;
 pub use name::{MOST_NAME_BYTES, Name, continues_word, is_identifier, is_reserved, starts_word};
 pub use project::Project;
 pub use selection::Selection;
+pub use site::{Rule, Site};
 pub use text::Text;

@@ -1,0 +1,48 @@
+-- The text of a site: a path that names a node of a project.
+use Rattle.std.specs.Prelude.{◌≡◌, ℕ, ◌<◌, ◌^◌, true, ◌==◌, List, [], ◌++◌, codes, if◌then◌else◌}
+use Rattle.std.specs.Fmt.{decimal}
+use Rattle.cfj_model.specs.Names.{is_short_identifier}
+use Rattle.cfj_model.specs.declared.site.Site.{Site}
+use Rattle.cfj_model.specs.declared.site.Site.TheVariants as site
+
+-- `~` and its alt stand behind a member that isn't the first of its name
+abbrev pub alt_text : ℕ → List ℕ
+alt_text alt = if alt == 0 then [] else codes "~" ++ decimal alt
+
+-- a member, and what follows
+abbrev pub member_text : List ℕ → ℕ → List ℕ → List ℕ
+member_text name alt rest = name ++ (alt_text alt ++ rest)
+
+-- `*`, `C`, `C.f`, `C.new`, `C.new(i)`, `C.new.super(i)`, `C.new.this(i)`, `C.m()`, `C.m(i)`, `C.m()#n`
+abbrev pub site_text : Site → List ℕ
+site_text site.Model = codes "*"
+site_text (site.Class c) = c
+site_text (site.Field c f alt) = c ++ (codes "." ++ member_text f alt [])
+site_text (site.Ctor c) = c ++ codes ".new"
+site_text (site.CtorParam c i) = c ++ (codes ".new(" ++ (decimal i ++ codes ")"))
+site_text (site.SuperArg c i) = c ++ (codes ".new.super(" ++ (decimal i ++ codes ")"))
+site_text (site.Assign c i) = c ++ (codes ".new.this(" ++ (decimal i ++ codes ")"))
+site_text (site.Method c m alt) = c ++ (codes "." ++ member_text m alt (codes "()"))
+site_text (site.Param c m alt i) = c ++ (codes "." ++ member_text m alt (codes "(" ++ (decimal i ++ codes ")")))
+site_text (site.Node c m alt n) = c ++ (codes "." ++ member_text m alt (codes "()#" ++ decimal n))
+
+-- a name that may stand in a path: an identifier of at most 255 bytes
+abbrev pub IsPathName : List ℕ → Type 0
+IsPathName name = is_short_identifier name ≡ true
+
+-- a number that may stand in a path
+abbrev pub IsPathNumber : ℕ → Type 0
+IsPathNumber n = n < 2 ^ 16
+
+-- the names and numbers of the site may stand in a path
+abbrev pub IsPath : Site → Type 0
+IsPath site.Model = Unit {0}
+IsPath (site.Class c) = IsPathName c
+IsPath (site.Field c f alt) = IsPathName c × IsPathName f × IsPathNumber alt
+IsPath (site.Ctor c) = IsPathName c
+IsPath (site.CtorParam c i) = IsPathName c × IsPathNumber i
+IsPath (site.SuperArg c i) = IsPathName c × IsPathNumber i
+IsPath (site.Assign c i) = IsPathName c × IsPathNumber i
+IsPath (site.Method c m alt) = IsPathName c × IsPathName m × IsPathNumber alt
+IsPath (site.Param c m alt i) = IsPathName c × IsPathName m × IsPathNumber alt × IsPathNumber i
+IsPath (site.Node c m alt n) = IsPathName c × IsPathName m × IsPathNumber alt × IsPathNumber n

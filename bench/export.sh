@@ -1,8 +1,10 @@
 #!/usr/bin/env bash
 # Times `cide export` on projects of a quarter, half and the whole of the largest size, and beside it a run of Python that
 # reads the same file, splits it into words and writes them back: first without features, then with 128 of them, of which half
-# are selected. Each time is the best of so many runs: export.sh [RUNS].
-# Ends with status 1 where the whole takes more than five times the quarter, or longer than Python.
+# are selected, then with methods too. Each time is the best of so many runs: export.sh [RUNS]. Where strace is there, it also
+# counts the reads and writes that the system sees.
+# Ends with status 1 where the whole takes more than five times the quarter, or longer than Python, or where there are more
+# writes than one for each 4 KiB of output and ten, or more reads than one for each 16 KiB of input and ten.
 set -eu
 
 runs=${1:-9}
@@ -24,10 +26,10 @@ best_of() {
     echo "$best"
 }
 
-# a number of classes, which is a size, with so many features, under these names
+# a number of classes, which is a size, with so many features, under these names; with methods where a fourth word stands
 measure() {
     local file=$work/project.$1
-    python3 "$top/bench/make_project.py" "$1" "$(($1 * 4096))" "$2" >"$file"
+    python3 "$top/bench/make_project.py" "$1" "$(($1 * 4096))" "$2" ${4:+"$4"} >"$file"
     times[$1]=$(best_of "$program" export "$file" "$3")
     python_times[$1]=$(best_of python3 -c "$python_words" "$file")
     printf '%5d classes, %3d features, %8d bytes: export %7d us, python %7d us\n' \
@@ -39,9 +41,24 @@ check() {
     if [ "$2" -le "$3" ]; then echo "yes: $1"; else echo "no: $1"; failed=1; fi
 }
 
-# the three sizes with so many features, under these names
+# the number of calls of this kind that an export makes
+calls() {
+    strace -f -e trace="$1" -o "$work/calls" "$program" export "$2" "$3" >/dev/null
+    grep -c "^[0-9]* *$1(" "$work/calls"
+}
+
+# the reads and writes of the whole, under these names
+count_calls() {
+    local file=$work/project.1024
+    command -v strace >/dev/null || return 0
+    "$program" export "$file" "$1" >"$work/written"
+    check "one read for each 16 KiB, and ten" "$(calls read "$file" "$1")" $(($(stat -c %s "$file") / 16384 + 11))
+    check "one write for each 4 KiB, and ten" "$(calls write "$file" "$1")" $(($(stat -c %s "$work/written") / 4096 + 11))
+}
+
+# the three sizes with so many features, under these names; with methods where a third word stands
 measure_sizes() {
-    for classes in 256 512 1024; do measure "$classes" "$1" "$2"; done
+    for classes in 256 512 1024; do measure "$classes" "$1" "$2" ${3:+"$3"}; done
     check "the whole takes at most 5 times the quarter" "${times[1024]}" $((5 * times[256]))
     check "the whole takes at most what python takes" "${times[1024]}" "${python_times[1024]}"
 }
@@ -51,5 +68,8 @@ program=$top/crates/cide/out/cide
 declare -A times python_times
 failed=0
 measure_sizes 0 .
-measure_sizes 128 "$(seq -s , -f 'F%g' 0 2 126)"
+half=$(seq -s , -f 'F%g' 0 2 126)
+measure_sizes 128 "$half"
+measure_sizes 128 "$half" methods
+count_calls "$half"
 exit "$failed"

@@ -22,6 +22,10 @@ abbrev pub names_line : List (List ℕ) → NameFault → List ℕ
 names_line names (NoFeature at) = codes "refused names: NoFeature " ++ (bad_name names at ++ line_end)
 names_line names (Twice at) = codes "refused names: Twice " ++ (bad_name names at ++ line_end)
 
+-- `invalid selection: constraint I`
+abbrev pub invalid_line : ℕ → List ℕ
+invalid_line at = codes "invalid selection: constraint " ++ (decimal at ++ line_end)
+
 -- the line of a status that always says the same
 abbrev pub status_line : ℕ → List ℕ
 status_line status =

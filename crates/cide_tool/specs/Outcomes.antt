@@ -7,8 +7,8 @@ use Rattle.cide_io.specs.declared.faults.ReadAll.TheVariants.{TooLong}
 use Rattle.cide_io.specs.Known.{Known}
 use Rattle.cide_tool.specs.declared.outcome.Outcome.{Outcome}
 use Rattle.cide_tool.specs.declared.outcome.Outcome.TheVariants as outcome
-use Rattle.cide_tool.specs.Lines.{IsSaid, status_line}
-use Rattle.cide_tool.specs.Running.{most_bytes, IsAllOf, IsExported, IsCutShort, IsRefused, IsTooLong}
+use Rattle.cide_tool.specs.Lines.{IsSaid, status_line, invalid_line}
+use Rattle.cide_tool.specs.Running.{most_bytes, IsAllOf, IsExported, IsCutShort, IsRefused, IsInvalid, IsTooLong}
 
 -- the status that tells an outcome
 abbrev pub status_of : Outcome → ℕ
@@ -18,12 +18,14 @@ status_of outcome.Usage = 4
 status_of outcome.ReadFault = 5
 status_of outcome.WriteFault = 6
 status_of outcome.NoMemory = 7
+status_of (outcome.Invalid line) = 8
 status_of outcome.TooLong = 11
 
 -- and the line
 abbrev pub line_of : Outcome → List ℕ
 line_of outcome.Done = []
 line_of (outcome.Refused line) = string_bytes line
+line_of (outcome.Invalid line) = string_bytes line
 line_of outcome.Usage = status_line 4
 line_of outcome.ReadFault = status_line 5
 line_of outcome.WriteFault = status_line 6
@@ -40,11 +42,18 @@ IsInput input (Err _) = Unit {0}
 abbrev pub IsOutcome : Known → List ℕ → Known → Known → Outcome → Type 0
 IsOutcome input names old new outcome.Done = IsExported input names old new
 IsOutcome input names old new (outcome.Refused line) = IsRefused input names (string_bytes line) × (new ≡ old)
+IsOutcome input names old new (outcome.Invalid line) = IsInvalid input names (string_bytes line) × (new ≡ old)
 IsOutcome input names old new outcome.Usage = new ≡ old
 IsOutcome input names old new outcome.ReadFault = new ≡ old
 IsOutcome input names old new outcome.WriteFault = IsCutShort input names old new
 IsOutcome input names old new outcome.NoMemory = new ≡ old
 IsOutcome input names old new outcome.TooLong = IsTooLong input × (new ≡ old)
+
+-- The line tells the first constraint that is false, or there was no memory for it.
+abbrev pub IsInvalidAt : ℕ → Outcome → Type 0
+IsInvalidAt at (outcome.Invalid line) = string_bytes line ≡ invalid_line at
+IsInvalidAt at outcome.NoMemory = Unit {0}
+IsInvalidAt at _ = ⊥
 
 -- Nothing is said of a run that is done, and else the line of its outcome.
 abbrev pub IsReported : Known → Known → ℕ → ℕ → Outcome → Type 0

@@ -5,15 +5,15 @@ use Rattle.std.specs.Str.{bytes_eq}
 use Rattle.std.specs.String.{string_bytes}
 use Rattle.std.specs.declared.alloc.Global.{Global}
 use Rattle.cfj_model.specs.declared.fault.FaultKind.{FaultKind}
-use Rattle.cfj_model.specs.Faults.{IsTextOf, IsFirstFault}
-use Rattle.cfj_model.specs.Print.{plain_printed}
+use Rattle.cfj_model.specs.Faults.{IsTextOf, IsFirstFault, projects}
 use Rattle.cfj_model.specs.ProductLines.{ProductLine}
-use Rattle.cfj_model.specs.Projection.{projected}
 use Rattle.cfj_model.specs.Selections.{Chosen}
+use Rattle.cfj_model.specs.Validity.{IsValid, IsFirstFalse}
 use Rattle.cide_io.specs.Known.{Known, appended, IsCut}
-use Rattle.cide_tool.specs.Lines.{refusal_line, names_line}
+use Rattle.cide_tool.specs.Lines.{refusal_line, names_line, invalid_line}
 use Rattle.feature_model.specs.declared.names.NameFault.{NameFault}
 use Rattle.feature_model.specs.NamedSelections.{IsSpelled, IsFirstBad}
+use Rattle.variant_export.specs.Exports.{variant_text}
 
 -- the word begins with `-`
 abbrev pub is_option : List ℕ → Bool
@@ -55,18 +55,15 @@ IsAllOf (Some bytes) text = text ≡ bytes
 pub record IsVariantOf (input : Known) (names : List ℕ) (line : ProductLine) (selection : Chosen) : Type 0 where
   pub text : List ℕ
   pub all : IsAllOf input text
-  pub read : IsTextOf text line
+  pub read : IsTextOf projects text line
   pub spelled : IsSpelled line.model.features (named_parts names) selection
 
--- what is printed of a product line under a selection
-abbrev pub variant_text : ProductLine → Chosen → List ℕ
-variant_text line selection = plain_printed (projected selection line).classes
-
--- The output gained the plain print of the variant that the project's text and the word name.
+-- The output gained the plain print of the variant that the project's text and the word name, whose selection is valid.
 pub record IsExported (input : Known) (names : List ℕ) (old new : Known) : Type 0 where
   pub line : ProductLine
   pub selection : Chosen
   pub variant : IsVariantOf input names line selection
+  pub valid : IsValid line.model.constraints selection
   pub printed : new ≡ appended old (variant_text line selection)
 
 -- The output gained a proper prefix of that.
@@ -74,6 +71,7 @@ pub record IsCutShort (input : Known) (names : List ℕ) (old new : Known) : Typ
   pub line : ProductLine
   pub selection : Chosen
   pub variant : IsVariantOf input names line selection
+  pub valid : IsValid line.model.constraints selection
   pub printed : IsCut old new (variant_text line selection)
 
 -- The project's text has a first fault, which the line tells.
@@ -82,7 +80,7 @@ pub record IsNoText (input : Known) (line : List ℕ) : Type 0 where
   pub at : ℕ
   pub kind : FaultKind
   pub all : IsAllOf input text
-  pub first : IsFirstFault text at kind
+  pub first : IsFirstFault projects text at kind
   pub told : line ≡ refusal_line at kind
 
 -- The project's text stands for a product line, and the line tells the first name of the word that is bad.
@@ -91,7 +89,7 @@ pub record IsBadName (input : Known) (names line : List ℕ) : Type 0 where
   pub project : ProductLine
   pub fault : NameFault
   pub all : IsAllOf input text
-  pub read : IsTextOf text project
+  pub read : IsTextOf projects text project
   pub first : IsFirstBad project.model.features (named_parts names) fault
   pub told : line ≡ names_line (named_parts names) fault
 
@@ -99,6 +97,15 @@ pub record IsBadName (input : Known) (names line : List ℕ) : Type 0 where
 pub data IsRefused (input : Known) (names line : List ℕ) : Type 0 where
   no_text : IsNoText input line → IsRefused input names line
   bad_name : IsBadName input names line → IsRefused input names line
+
+-- Under the selection that the word spells a constraint of the project is false, the first of them the one that the line tells.
+pub record IsInvalid (input : Known) (names line : List ℕ) : Type 0 where
+  pub project : ProductLine
+  pub selection : Chosen
+  pub at : ℕ
+  pub variant : IsVariantOf input names project selection
+  pub first : IsFirstFalse project.model.constraints selection at
+  pub told : line ≡ invalid_line at
 
 -- The project's text has more bytes than a text may have.
 pub record IsTooLong (input : Known) : Type 0 where
@@ -108,4 +115,4 @@ pub record IsTooLong (input : Known) : Type 0 where
 
 -- one of the statuses that a run ends with
 abbrev pub is_status : ℕ → Bool
-is_status status = list_any (λ s. s == status) (0 ∷ (3 ∷ (4 ∷ (5 ∷ (6 ∷ (7 ∷ (11 ∷ [])))))))
+is_status status = list_any (λ s. s == status) (0 ∷ (3 ∷ (4 ∷ (5 ∷ (6 ∷ (7 ∷ (8 ∷ (11 ∷ []))))))))

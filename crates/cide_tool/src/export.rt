@@ -1,10 +1,10 @@
 ghost use Rattle.std.specs.Prelude.{◌≡◌, ℕ, ◌≤◌, List, length, map, Some, IfOk, string_bytes};
-ghost use Rattle.cfj_model.specs.Faults.{IsTextOf, IsFirstFault};
+ghost use Rattle.cfj_model.specs.Faults.{IsTextOf, IsFirstFault, projects};
 ghost use Rattle.cide_io.specs.Faults.{Rose};
 ghost use Rattle.feature_model.specs.NamedSelections.{IsSpelled, IsFirstBad};
 ghost use Rattle.cide_tool.specs.Lines.{refusal_line, bad_name, names_line};
 ghost use Rattle.cide_tool.specs.Running.{most_bytes, named_parts};
-ghost use Rattle.cide_tool.specs.Outcomes.{IsOutcome};
+ghost use Rattle.cide_tool.specs.Outcomes.{IsOutcome, IsInvalidAt};
 
 use crate::input::read_input;
 use crate::names::selection_of;
@@ -13,9 +13,8 @@ use crate::words::parts;
 use cfj_model::{FaultKind, ParseFault, Project, Selection};
 use cide_io::{ReadAll, Room, Sink};
 use feature_model::NameFault;
-use feature_views::project as variant_of;
 use fj_parser::parse_project;
-use fj_printer::print_plain;
+use variant_export::{ExportFault, export as export_to};
 use std::alloc::{AllocError, Global};
 
 /// The line that tells the first fault of a text.
@@ -27,7 +26,7 @@ fn refusal(alloc: Global, at: usize, kind: &FaultKind) -> Result<String, AllocEr
 
 /// What becomes of a text with a first fault. Without memory for the line there is none to say why.
 fn refused(alloc: Global, text: &[u8], names: &str, at: usize, kind: &FaultKind) -> Outcome
-    requires { IsFirstFault text.now at kind.now }
+    requires { IsFirstFault projects text.now at kind.now }
     ensures told { (old : _) → IsOutcome (Some text.now) names.now old old result }
     ensures command { ¬ (result ≡ Outcome.Usage) }
     ensures read { ¬ (result ≡ Outcome.ReadFault) }
@@ -73,7 +72,7 @@ fn names_refused(
     parts: &[&str],
     fault: NameFault,
 ) -> Outcome
-    requires read { IsTextOf text.now project.now }
+    requires read { IsTextOf projects text.now project.now }
     requires parts { map (λ part. part.now) parts.now ≡ named_parts names.now }
     requires first { IsFirstBad project.now.model.features (named_parts names.now) fault }
     ensures told { (old : _) → IsOutcome (Some text.now) names.now old old result }
@@ -87,7 +86,18 @@ fn names_refused(
     }
 }
 
-/// Prints the variant of a selection of the features of a project that was read.
+/// What becomes of a selection under which this constraint is the first that is false. Without memory for the line there is
+/// none to say which.
+fn invalid(alloc: Global, at: usize) -> Outcome
+    ensures { IsInvalidAt at result }
+{
+    match format!(in alloc; "invalid selection: constraint {at}\n") {
+        Ok(line) => Outcome::Invalid(line),
+        Err(_) => Outcome::NoMemory,
+    }
+}
+
+/// Prints the variant of a selection of the features of a project that was read, where the selection is valid.
 fn export_variant<O: Sink>(
     alloc: Global,
     text: &[u8],
@@ -96,7 +106,7 @@ fn export_variant<O: Sink>(
     selection: &Selection,
     out: &mut O,
 ) -> Outcome
-    requires read { IsTextOf text.now project.now }
+    requires read { IsTextOf projects text.now project.now }
     requires spelled { IsSpelled project.now.model.features (named_parts names.now) selection.now }
     ensures text { IsOutcome (Some text.now) names.now (O.held out.old) (O.held out.new) result }
     ensures command { ¬ (result ≡ Outcome.Usage) }
@@ -105,13 +115,11 @@ fn export_variant<O: Sink>(
     ensures named { O.name out.new ≡ O.name out.old }
     ensures later { O.faults out.old ≤ O.faults out.new }
 {
-    let variant = match variant_of(alloc, project, selection) {
-        Ok(variant) => variant,
-        Err(_) => return Outcome::NoMemory,
-    };
-    match print_plain(&variant, out) {
+    match export_to(alloc, project, selection, out) {
         Ok(()) => Outcome::Done,
-        Err(_) => Outcome::WriteFault,
+        Err(ExportFault::InvalidSelection(at)) => invalid(alloc, at),
+        Err(ExportFault::WriteFault) => Outcome::WriteFault,
+        Err(ExportFault::NoMemory) => Outcome::NoMemory,
     }
 }
 
@@ -123,7 +131,7 @@ fn export_named<O: Sink>(
     project: &Project,
     out: &mut O,
 ) -> Outcome
-    requires { IsTextOf text.now project.now }
+    requires { IsTextOf projects text.now project.now }
     ensures text { IsOutcome (Some text.now) names.now (O.held out.old) (O.held out.new) result }
     ensures command { ¬ (result ≡ Outcome.Usage) }
     ensures read { ¬ (result ≡ Outcome.ReadFault) }

@@ -11,6 +11,8 @@ pub enum Outcome {
     Done,
     /// The project's text isn't in the grammar, or a name is bad; the line says which.
     Refused(String),
+    /// A constraint is false under the selection; the line says which.
+    Invalid(String),
     /// The words aren't a command's.
     Usage,
     /// The project couldn't be opened or read.
@@ -35,6 +37,7 @@ impl Outcome {
             Outcome::ReadFault => 5,
             Outcome::WriteFault => 6,
             Outcome::NoMemory => 7,
+            Outcome::Invalid(_) => 8,
             Outcome::TooLong => 11,
         }
     }
@@ -46,6 +49,7 @@ impl Outcome {
         match self {
             Outcome::Done => "",
             Outcome::Refused(line) => line.as_str(),
+            Outcome::Invalid(line) => line.as_str(),
             Outcome::Usage => {
                 "usage: cide check|export|view|script|serve|audit|certify|verify|sample\n"
             }

@@ -2,7 +2,7 @@ ghost use Rattle.std.specs.Prelude.{◌≡◌, ℕ, ◌≤◌, ◌↔◌, List, 
 ghost use Rattle.cide_io.specs.Faults.{Rose};
 ghost use Rattle.cide_tool.specs.Lines.{IsSaid, status_line};
 ghost use Rattle.cide_tool.specs.Outcomes.{IsOutcome};
-ghost use Rattle.cide_tool.specs.Running.{is_export, project_name, names_word, is_status, IsExported, IsCutShort, IsRefused, IsTooLong};
+ghost use Rattle.cide_tool.specs.Running.{is_export, project_name, names_word, is_status, IsExported, IsCutShort, IsRefused, IsInvalid, IsTooLong};
 
 use crate::export::export;
 use crate::outcome::Outcome;
@@ -42,7 +42,7 @@ pub fn run_plain<T: AllocGlobal, R: Room, O: Sink, E: Sink>(
     out: &mut O,
     err: &mut E,
 ) -> u8
-    // 0: the project's text stands for a product line, the names spell a selection of its features, and `out` gained the
+    // 0: the project's text stands for a product line, the names spell a valid selection of its features, and `out` gained the
     // plain print of that selection's variant.
     ensures done { result ≡ 0
         → IsExported (R.input room.old (project_name words.now)) (names_word words.now) (O.held out.old) (O.held out.new) }
@@ -59,15 +59,19 @@ pub fn run_plain<T: AllocGlobal, R: Room, O: Sink, E: Sink>(
     ensures write { result ≡ 6 → Rose (O.faults out.old) (O.faults out.new) }
     ensures cut { result ≡ 6
         → IsCutShort (R.input room.old (project_name words.now)) (names_word words.now) (O.held out.old) (O.held out.new) }
+    // 8: a constraint is false under the selection that the names spell, and `err` was told of the first such constraint.
+    ensures invalid { result ≡ 8
+        → (line : List ℕ) × IsInvalid (R.input room.old (project_name words.now)) (names_word words.now) line
+        × IsSaid (E.held err.old) (E.held err.new) (E.faults err.old) (E.faults err.new) line }
     // 11: the project's text is too long.
     ensures limit { result ≡ 11 → IsTooLong (R.input room.old (project_name words.now)) }
     // 7, want of memory, has no cause to tell, and there is no other status.
     ensures only { is_status result ≡ true }
     // At every status but 0 and 6 `out` gains nothing.
     ensures kept { ¬ (result ≡ 0) → ¬ (result ≡ 6) → O.held out.new ≡ O.held out.old }
-    // At 0 nothing is said on `err`, and at every other status but 3 the line of the status.
+    // At 0 nothing is said on `err`, and at every other status but 3 and 8 the line of the status.
     ensures silent { result ≡ 0 → E.held err.new ≡ E.held err.old }
-    ensures said { ¬ (result ≡ 0) → ¬ (result ≡ 3)
+    ensures said { ¬ (result ≡ 0) → ¬ (result ≡ 3) → ¬ (result ≡ 8)
         → IsSaid (E.held err.old) (E.held err.new) (E.faults err.old) (E.faults err.new) (status_line result) }
     // The sinks keep their names, and no count of faults falls.
     ensures out_name { O.name out.new ≡ O.name out.old }
@@ -94,7 +98,7 @@ pub fn run<T: AllocGlobal, R: Room, O: Sink, E: Sink>(
     out: &mut O,
     err: &mut E,
 ) -> u8
-    // 0: the project's text stands for a product line, the names spell a selection of its features, and `out` gained the
+    // 0: the project's text stands for a product line, the names spell a valid selection of its features, and `out` gained the
     // plain print of that selection's variant.
     ensures done { result ≡ 0
         → IsExported (R.input room.old (project_name words.now)) (names_word words.now) (O.held out.old) (O.held out.new) }
@@ -111,15 +115,19 @@ pub fn run<T: AllocGlobal, R: Room, O: Sink, E: Sink>(
     ensures write { result ≡ 6 → Rose (O.faults out.old) (O.faults out.new) }
     ensures cut { result ≡ 6
         → IsCutShort (R.input room.old (project_name words.now)) (names_word words.now) (O.held out.old) (O.held out.new) }
+    // 8: a constraint is false under the selection that the names spell, and `err` was told of the first such constraint.
+    ensures invalid { result ≡ 8
+        → (line : List ℕ) × IsInvalid (R.input room.old (project_name words.now)) (names_word words.now) line
+        × IsSaid (E.held err.old) (E.held err.new) (E.faults err.old) (E.faults err.new) line }
     // 11: the project's text is too long.
     ensures limit { result ≡ 11 → IsTooLong (R.input room.old (project_name words.now)) }
     // 7, want of memory, has no cause to tell, and there is no other status.
     ensures only { is_status result ≡ true }
     // At every status but 0 and 6 `out` gains nothing.
     ensures kept { ¬ (result ≡ 0) → ¬ (result ≡ 6) → O.held out.new ≡ O.held out.old }
-    // At 0 nothing is said on `err`, and at every other status but 3 the line of the status.
+    // At 0 nothing is said on `err`, and at every other status but 3 and 8 the line of the status.
     ensures silent { result ≡ 0 → E.held err.new ≡ E.held err.old }
-    ensures said { ¬ (result ≡ 0) → ¬ (result ≡ 3)
+    ensures said { ¬ (result ≡ 0) → ¬ (result ≡ 3) → ¬ (result ≡ 8)
         → IsSaid (E.held err.old) (E.held err.new) (E.faults err.old) (E.faults err.new) (status_line result) }
     // The sinks keep their names, and no count of faults falls.
     ensures out_name { O.name out.new ≡ O.name out.old }

@@ -1,3 +1,4 @@
+mod bodies;
 mod variants;
 
 use cide_io::{HostRoom, MemRoom, MemSink, Room, StdErrSink, StdOutSink, put_all, read_all};
@@ -126,7 +127,7 @@ const REFUSED: [(&str, &str); 34] = [
     // a field behind the constructor
     (
         "class A extends Object { A() { super(); } Object f; }",
-        "refused at 42: Unexpected",
+        "refused at 50: Unexpected",
     ),
     // an assignment without its semicolon
     (

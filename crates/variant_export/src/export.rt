@@ -1,0 +1,49 @@
+ghost use Rattle.std.specs.Prelude.{◌≡◌, ◌≤◌, length, Err};
+ghost use Rattle.cide_io.specs.Faults.{Rose};
+ghost use Rattle.variant_export.specs.Exports.{IsExport};
+
+use cfj_model::{Project, Selection};
+use cide_io::Sink;
+use feature_model::{Failing, valid};
+use feature_views::project as variant_of;
+use fj_printer::print_plain;
+use std::alloc::Global;
+
+/// Why a variant isn't printed whole.
+#[derive(Clone, Copy, Debug, PartialEq, Eq)]
+pub enum ExportFault {
+    /// The constraint of this number, from 0, is the first that is false.
+    InvalidSelection(usize),
+    /// The sink took no more.
+    WriteFault,
+    /// There was no memory for the variant.
+    NoMemory,
+}
+
+/// Appends the printed form of the variant of a selection of the project's features to what a sink holds, where the selection
+/// is valid.
+///
+/// Where it isn't, nothing is put. After a write fault the sink holds a proper prefix of the print behind what it held.
+pub fn export<K: Sink>(
+    alloc: Global,
+    project: &Project,
+    selection: &Selection,
+    sink: &mut K,
+) -> Result<(), ExportFault>
+    requires { selection.now.features ≡ length project.now.model.features }
+    ensures text { IsExport project.now selection.now (K.held sink.old) (K.held sink.new) result }
+    ensures cause { result ≡ Err ExportFault.WriteFault → Rose (K.faults sink.old) (K.faults sink.new) }
+    ensures named { K.name sink.new ≡ K.name sink.old }
+    ensures later { K.faults sink.old ≤ K.faults sink.new }
+{
+    if let Err(Failing(at)) = valid(project.model(), selection) {
+        return Err(ExportFault::InvalidSelection(at));
+    }
+    let Ok(variant) = variant_of(alloc, project, selection) else {
+        return Err(ExportFault::NoMemory);
+    };
+    match print_plain(&variant, sink) {
+        Ok(()) => Ok(()),
+        Err(_) => Err(ExportFault::WriteFault),
+    }
+}

@@ -1,5 +1,5 @@
 -- Folds and induction over expressions and their arguments, a case for each variant.
-use Rattle.std.proofs.Common.{◌≡◌, ℕ, List, map, ap, sym, ◌∙◌, subst}
+use Rattle.std.proofs.Common.{◌≡◌, refl, ℕ, List, [], ◌∷◌, map, ap, sym, ◌∙◌, subst}
 use Rattle.cfj_model.specs.declared.expr.Arg.{Arg, Arg-F, fold-Arg}
 use Rattle.cfj_model.specs.declared.expr.Expr.{Expr}
 use Rattle.cfj_model.specs.declared.expr.Expr.TheOpen.{Expr-F}
@@ -7,13 +7,19 @@ use Rattle.cfj_model.specs.declared.expr.Expr.TheVariants as e
 use Rattle.cfj_model.specs.declared.expr.Expr.TheViews.{roll-Expr}
 use Rattle.cfj_model.specs.declared.expr.Expr.TheFolds.{fold-Expr, fold-roll-Expr, fold-roll-Arg, ind-Expr, map-Expr}
 
--- a fold at each variant, and at an argument
+-- a fold at each variant; an argument gives what its colours and its expression give
 module _ (A B : Type 0) (step : Expr-F A B → A) (arg_step : Arg-F A B → B) where
-  abbrev of_expr : Expr → A
+  abbrev pub of_expr : Expr → A
   of_expr = fold-Expr A B step arg_step
 
   abbrev pub of_arg : Arg → B
-  of_arg = fold-Arg A B step arg_step
+  of_arg a = arg_step (record { colors = a.colors; expr = of_expr a.expr })
+
+  args_are : (args : List Arg) → map (fold-Arg A B step arg_step) args ≡ map of_arg args
+  args_are [] = refl
+  args_are (a ∷ args) =
+      ap (λ b. b ∷ map (fold-Arg A B step arg_step) args) (fold-roll-Arg A B step arg_step (record { colors = a.colors; expr = a.expr }))
+      ∙ ap (λ bs. of_arg a ∷ bs) (args_are args)
 
   pub fold_var : (slot : ℕ) (name : List ℕ) → of_expr (e.Var slot name) ≡ step (Expr-F.Var slot name)
   fold_var slot name = ap of_expr (sym (e.rolls-Var slot name)) ∙ fold-roll-Expr A B step arg_step (Expr-F.Var slot name)
@@ -22,16 +28,19 @@ module _ (A B : Type 0) (step : Expr-F A B → A) (arg_step : Arg-F A B → B) w
   fold_get slot on field = ap of_expr (sym (e.rolls-Get slot on field)) ∙ fold-roll-Expr A B step arg_step (Expr-F.Get slot on field)
 
   pub fold_call : (slot : ℕ) (on : Expr) (method : List ℕ) (args : List Arg) → of_expr (e.Call slot on method args) ≡ step (Expr-F.Call slot (of_expr on) method (map of_arg args))
-  fold_call slot on method args = ap of_expr (sym (e.rolls-Call slot on method args)) ∙ fold-roll-Expr A B step arg_step (Expr-F.Call slot on method args)
+  fold_call slot on method args =
+      ap of_expr (sym (e.rolls-Call slot on method args))
+      ∙ fold-roll-Expr A B step arg_step (Expr-F.Call slot on method args)
+      ∙ ap (λ bs. step (Expr-F.Call slot (of_expr on) method bs)) (args_are args)
 
   pub fold_new : (slot : ℕ) (class : List ℕ) (args : List Arg) → of_expr (e.New slot class args) ≡ step (Expr-F.New slot class (map of_arg args))
-  fold_new slot class args = ap of_expr (sym (e.rolls-New slot class args)) ∙ fold-roll-Expr A B step arg_step (Expr-F.New slot class args)
+  fold_new slot class args =
+      ap of_expr (sym (e.rolls-New slot class args))
+      ∙ fold-roll-Expr A B step arg_step (Expr-F.New slot class args)
+      ∙ ap (λ bs. step (Expr-F.New slot class bs)) (args_are args)
 
   pub fold_cast : (slot : ℕ) (class : List ℕ) (on : Expr) → of_expr (e.Cast slot class on) ≡ step (Expr-F.Cast slot class (of_expr on))
   fold_cast slot class on = ap of_expr (sym (e.rolls-Cast slot class on)) ∙ fold-roll-Expr A B step arg_step (Expr-F.Cast slot class on)
-
-  pub fold_arg : (a : Arg) → of_arg a ≡ arg_step (record { colors = a.colors; expr = of_expr a.expr })
-  fold_arg a = fold-roll-Arg A B step arg_step (record { colors = a.colors; expr = a.expr })
 
 -- an argument of whose expression something is shown
 abbrev pub Proved : (Expr → Type 0) → Type 0

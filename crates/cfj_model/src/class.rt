@@ -1,7 +1,11 @@
+ghost use Rattle.std.specs.Prelude.{◌≡◌, IfOk};
+
 use crate::colors::Colors;
+use crate::copied::{Copied, copied_items};
 use crate::expr::Expr;
 use crate::items::Items;
 use crate::name::Name;
+use std::alloc::{AllocError, Global};
 
 /// `of name;` in a class.
 #[derive(Debug, Drop)]
@@ -83,4 +87,138 @@ pub struct Class {
     pub ctor: Constructor,
     /// Its methods.
     pub methods: Items<Method>,
+}
+
+impl Field {
+    /// An equal field in memory of its own.
+    ///
+    /// # Errors
+    ///
+    /// There is no memory for it.
+    pub fn copy(&self, alloc: Global) -> Result<Field, AllocError>
+        ensures { IfOk result (λ field. field ≡ self.now) }
+    {
+        Ok(Field {
+            alt: self.alt,
+            colors: self.colors,
+            of: self.of.copy(alloc)?,
+            name: self.name.copy(alloc)?,
+        })
+    }
+}
+
+impl Copied for Field {
+    fn copied(&self, alloc: Global) -> Result<Field, AllocError> {
+        self.copy(alloc)
+    }
+}
+
+impl Param {
+    /// An equal parameter in memory of its own.
+    ///
+    /// # Errors
+    ///
+    /// There is no memory for it.
+    pub fn copy(&self, alloc: Global) -> Result<Param, AllocError>
+        ensures { IfOk result (λ param. param ≡ self.now) }
+    {
+        Ok(Param {
+            slot: self.slot,
+            colors: self.colors,
+            of: self.of.copy(alloc)?,
+            name: self.name.copy(alloc)?,
+        })
+    }
+}
+
+impl Copied for Param {
+    fn copied(&self, alloc: Global) -> Result<Param, AllocError> {
+        self.copy(alloc)
+    }
+}
+
+impl Sent {
+    /// An equal name in memory of its own.
+    ///
+    /// # Errors
+    ///
+    /// There is no memory for it.
+    pub fn copy(&self, alloc: Global) -> Result<Sent, AllocError>
+        ensures { IfOk result (λ sent. sent ≡ self.now) }
+    {
+        Ok(Sent {
+            slot: self.slot,
+            colors: self.colors,
+            name: self.name.copy(alloc)?,
+        })
+    }
+}
+
+impl Copied for Sent {
+    fn copied(&self, alloc: Global) -> Result<Sent, AllocError> {
+        self.copy(alloc)
+    }
+}
+
+impl Constructor {
+    /// An equal constructor in memory of its own.
+    ///
+    /// # Errors
+    ///
+    /// There is no memory for it.
+    pub fn copy(&self, alloc: Global) -> Result<Constructor, AllocError>
+        ensures { IfOk result (λ ctor. ctor ≡ self.now) }
+    {
+        Ok(Constructor {
+            params: copied_items(alloc, &self.params)?,
+            sends: copied_items(alloc, &self.sends)?,
+            assigns: copied_items(alloc, &self.assigns)?,
+        })
+    }
+}
+
+impl Method {
+    /// An equal method in memory of its own.
+    ///
+    /// # Errors
+    ///
+    /// There is no memory for it.
+    pub fn copy(&self, alloc: Global) -> Result<Method, AllocError>
+        ensures { IfOk result (λ method. method ≡ self.now) }
+    {
+        Ok(Method {
+            alt: self.alt,
+            colors: self.colors,
+            result: self.result.copy(alloc)?,
+            name: self.name.copy(alloc)?,
+            params: copied_items(alloc, &self.params)?,
+            body: self.body.copy(alloc)?,
+        })
+    }
+}
+
+impl Copied for Method {
+    fn copied(&self, alloc: Global) -> Result<Method, AllocError> {
+        self.copy(alloc)
+    }
+}
+
+impl Class {
+    /// An equal class in memory of its own.
+    ///
+    /// # Errors
+    ///
+    /// There is no memory for it.
+    pub fn copy(&self, alloc: Global) -> Result<Class, AllocError>
+        ensures { IfOk result (λ class. class ≡ self.now) }
+    {
+        Ok(Class {
+            name: self.name.copy(alloc)?,
+            colors: self.colors,
+            parent: self.parent.copy(alloc)?,
+            fields: copied_items(alloc, &self.fields)?,
+            ctor: self.ctor.copy(alloc)?,
+            methods: copied_items(alloc, &self.methods)?,
+        })
+    }
 }

@@ -106,17 +106,30 @@ impl Expr {
     }
 }
 
+impl Arg {
+    /// An equal argument in memory of its own.
+    ///
+    /// # Errors
+    ///
+    /// There is no memory for it.
+    #[cycle(copy)]
+    pub fn copy(&self, alloc: Global) -> Result<Arg, AllocError>
+        ensures { IfOk result (λ arg. arg ≡ self.now) }
+    {
+        Ok(Arg {
+            colors: self.colors,
+            expr: self.expr.copy(alloc)?,
+        })
+    }
+}
+
 #[cycle(copy)]
 fn copy_args(alloc: Global, args: &[Arg]) -> Result<Items<Arg>, AllocError>
     ensures { IfOk result (λ list. list ≡ args.now) }
 {
     let mut list = Vec::new(alloc);
     'each: for arg in args {
-        let expr = arg.expr.copy(alloc)?;
-        list.push(Arg {
-            colors: arg.colors,
-            expr,
-        })?;
+        list.push(arg.copy(alloc)?)?;
     }
     Ok(Items::of(list))
 }

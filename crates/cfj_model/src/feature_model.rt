@@ -1,6 +1,10 @@
+ghost use Rattle.std.specs.Prelude.{◌≡◌, IfOk};
+
+use crate::copied::copied_items;
 use crate::formula::Formula;
 use crate::items::Items;
 use crate::name::Name;
+use std::alloc::{AllocError, Global};
 
 /// The features of a product line, and which selections of them are valid.
 #[derive(Debug, Drop)]
@@ -9,4 +13,20 @@ pub struct FeatureModel {
     pub features: Items<Name>,
     /// What a valid selection makes true, over the features by their numbers.
     pub constraints: Items<Formula>,
+}
+
+impl FeatureModel {
+    /// An equal model in memory of its own.
+    ///
+    /// # Errors
+    ///
+    /// There is no memory for it.
+    pub fn copy(&self, alloc: Global) -> Result<FeatureModel, AllocError>
+        ensures { IfOk result (λ model. model ≡ self.now) }
+    {
+        Ok(FeatureModel {
+            features: copied_items(alloc, &self.features)?,
+            constraints: copied_items(alloc, &self.constraints)?,
+        })
+    }
 }

@@ -1,6 +1,7 @@
 ghost use Rattle.std.specs.Prelude.{◌≡◌, IfOk};
 
 use crate::boxed::Boxed;
+use crate::copied::Copied;
 use std::alloc::{AllocError, Global};
 
 /// A formula over features, which are named by their numbers.
@@ -62,5 +63,11 @@ impl Formula {
                 Ok(Formula::Iff(Boxed::new(alloc, left)?, Boxed::new(alloc, right)?))
             }
         }
+    }
+}
+
+impl Copied for Formula {
+    fn copied(&self, alloc: Global) -> Result<Formula, AllocError> {
+        self.copy(alloc)
     }
 }

@@ -11,6 +11,7 @@ mod class;
 mod clause;
 mod clauses;
 mod colors;
+mod copied;
 mod expr;
 mod fault;
 mod feature_model;

@@ -4,6 +4,7 @@ ghost use Rattle.std.specs.Str.{chars, bytes_eq};
 ghost use Rattle.cfj_model.specs.Names as spec;
 
 use crate::character::split_first;
+use crate::copied::Copied;
 use std::alloc::{AllocError, Global};
 use std::marker::Model;
 
@@ -148,5 +149,11 @@ impl Name {
     {
         let text = String::from_str(alloc, self.text.as_str())?;
         Ok(Name { text })
+    }
+}
+
+impl Copied for Name {
+    fn copied(&self, alloc: Global) -> Result<Name, AllocError> {
+        self.copy(alloc)
     }
 }

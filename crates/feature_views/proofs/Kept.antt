@@ -1,5 +1,5 @@
 -- What a list that keeps some of its items, each changed, has of the list that it came from.
-use Rattle.std.proofs.Common.{◌≡◌, refl, sym, ap, ◌∙◌, ℕ, ◌+◌, ◌≤◌, Bool, true, false, not, ◌||◌, nat_le, List, [], ◌∷◌, ◌++◌, length, map, drop, cond, slice_get, Some, arith}
+use Rattle.std.proofs.Common.{◌≡◌, refl, sym, ap, ◌∙◌, ℕ, ◌+◌, ◌≤◌, Bool, true, false, not, ◌||◌, nat_le, List, [], ◌∷◌, ◌++◌, length, map, drop, cond, if◌then◌else◌, slice_get, Some, arith}
 use Rattle.std.specs.List.{filter, list_all, sum_by}
 use Rattle.std.specs.Str.{bytes_eq}
 use Rattle.std.proofs.lemmas.Bool.{leb-true, le-leb, and_parts, and_from}
@@ -9,7 +9,7 @@ use Rattle.std.proofs.lemmas.List.Sums.{sum_by-cons}
 use Rattle.std.proofs.lemmas.List.Folds.{list_any-append}
 use Rattle.cfj_model.specs.ProductLines.{has, are_new, are_distinct, rise_from}
 
-at_most : (n m most : ℕ) → n ≤ m → nat_le m most ≡ true → nat_le n most ≡ true
+pub at_most : (n m most : ℕ) → n ≤ m → nat_le m most ≡ true → nat_le n most ≡ true
 at_most n m most le e = let within = leb-true m most e in le-leb n most (omega arith)
 
 -- fewer names before have no name that those lack
@@ -82,7 +82,7 @@ module _ {A B : Type 0} (made : A → B) (keeps : A → Bool) where
   pub few_kept : (most : ℕ) (xs : List A) → nat_le (length xs) most ≡ true → nat_le (length (kept xs)) most ≡ true
   few_kept most xs e = at_most (length (kept xs)) (length xs) most (length_kept xs) e
 
-  sum_kept : (f : A → ℕ) (g : B → ℕ) → ((x : A) → g (made x) ≤ f x) → (xs : List A) → sum_by g (kept xs) ≤ sum_by f xs
+  pub sum_kept : (f : A → ℕ) (g : B → ℕ) → ((x : A) → g (made x) ≤ f x) → (xs : List A) → sum_by g (kept xs) ≤ sum_by f xs
   sum_kept f g h [] = omega arith
   sum_kept f g h (x ∷ xs) =
       let less = sum_kept f g h xs in
@@ -145,3 +145,13 @@ module _ {A B : Type 0} (made : A → B) (keeps : A → Bool) where
         | true ↦ and_from (q (made x)) (list_all q (kept xs)) (h x) rest
         | false ↦ rest
       ]
+
+-- what is kept of a list of views, by what they are views of
+pub kept_of_map : {A B C : Type 0} (made : A → B) (keeps : A → Bool) (view : C → A) (xs : List C) → map made (filter keeps (map view xs)) ≡ map (λ x. made (view x)) (filter (λ x. keeps (view x)) xs)
+kept_of_map made keeps view [] = refl
+kept_of_map made keeps view (x ∷ xs) = go (keeps (view x)) (kept_of_map made keeps view xs)
+  where
+    go : (b : Bool) → map made (filter keeps (map view xs)) ≡ map (λ y. made (view y)) (filter (λ y. keeps (view y)) xs) →
+        map made (if b then view x ∷ filter keeps (map view xs) else filter keeps (map view xs)) ≡ map (λ y. made (view y)) (if b then x ∷ filter (λ y. keeps (view y)) xs else filter (λ y. keeps (view y)) xs)
+    go true e = ap (λ w. made (view x) ∷ w) e
+    go false e = e

@@ -8,13 +8,18 @@ use Rattle.cfj_model.specs.declared.class.Field.{Field}
 use Rattle.cfj_model.specs.declared.class.Param.{Param}
 use Rattle.cfj_model.specs.declared.class.Sent.{Sent}
 use Rattle.cfj_model.specs.declared.class.Constructor.{Constructor}
+use Rattle.cfj_model.specs.declared.class.Method.{Method}
 use Rattle.cfj_model.specs.declared.class.Class.{Class}
+use Rattle.cfj_model.specs.declared.expr.Expr.{Expr}
 use Rattle.cfj_model.specs.declared.feature_model.FeatureModel.{FeatureModel}
-use Rattle.cfj_model.specs.ProductLines.{ProductLine, IsProject, IsPlain, object, most_fields, most_in_ctor, most_classes, most_size, are_known, are_distinct, rise_from, is_field, is_param, is_sent, are_fields, are_params, are_sents, is_ctor, is_class, class_size, is_plain_class}
-use Rattle.cfj_model.specs.Projection.{presence_of, is_present, bare_field, bare_param, bare_sent, present_fields, present_params, present_sents, projected_ctor, projected_class, projected}
+use Rattle.cfj_model.specs.Expressions.{are_known, is_named, nest, node_count, slots}
+use Rattle.cfj_model.specs.ProductLines.{ProductLine, IsProject, IsPlain, object, most_fields, most_in_ctor, most_methods, most_params, most_nodes, most_nest, most_classes, most_size, are_distinct, rise_from, is_field, is_param, is_sent, are_fields, are_params, are_sents, is_ctor, is_body, is_method, are_methods, is_class, method_size, class_size, is_plain_method, is_plain_class}
+use Rattle.cfj_model.specs.Projection.{presence_of, is_present, bare_field, bare_param, bare_sent, present_fields, present_params, present_sents, present_methods, projected_ctor, projected_expr, projected_method, projected_class, projected}
 use Rattle.cfj_model.specs.Selections.{Chosen}
 use Rattle.feature_views.specs.Selected.{present_classes}
-use Rattle.feature_views.proofs.Kept.{length_kept, few_kept, small_kept, distinct_kept, rise_kept, all_kept, all_made}
+use Rattle.feature_views.proofs.Kept.{at_most, length_kept, few_kept, sum_kept, small_kept, distinct_kept, rise_kept, all_kept, all_made}
+use Rattle.feature_views.proofs.KeptBodies.{stays_named, becomes_bare, loses_nodes, stays_shallow, keeps_slots}
+use Rattle.feature_views.proofs.Sublists.{rise_sublist}
 
 -- no colours are known to any model
 unmarked_2 : (known b : Bool) → (known && b) ≡ true → (true && b) ≡ true
@@ -50,10 +55,10 @@ module _ (s : Chosen) (around features : ℕ) where
       (and_from _ _ (few_kept bare_field keeps most_fields fs inner.0) (distinct_kept bare_field keeps (λ f. f.name) fs inner.1))
       (all_kept bare_field keeps (is_field features) (is_field 0) (bare_is_field features) fs outer.1)
 
-  kept_params : (ps : List Param) → are_params features ps ≡ true → are_params 0 (present_params s around ps) ≡ true
-  kept_params ps e =
+  kept_params : (most : ℕ) (ps : List Param) → are_params most features ps ≡ true → are_params most 0 (present_params s around ps) ≡ true
+  kept_params most ps e =
       let keeps : Param → Bool = λ p. is_present s (presence_of around p.colors) in
-      let few = nat_le (length ps) most_in_ctor in
+      let few = nat_le (length ps) most in
       let distinct = are_distinct (map (λ (p : Param). p.name) ps) in
       let rise = rise_from 0 (map (λ (p : Param). p.slot) ps) in
       let outer = and_parts (few && distinct && rise) (list_all (is_param features) ps) e in
@@ -61,7 +66,7 @@ module _ (s : Chosen) (around features : ℕ) where
       let inner = and_parts few distinct middle.0 in
       and_from _ _
       (and_from _ _
-      (and_from _ _ (few_kept bare_param keeps most_in_ctor ps inner.0) (distinct_kept bare_param keeps (λ p. p.name) ps inner.1))
+      (and_from _ _ (few_kept bare_param keeps most ps inner.0) (distinct_kept bare_param keeps (λ p. p.name) ps inner.1))
       (rise_kept bare_param keeps (λ p. p.slot) ps middle.1))
       (all_kept bare_param keeps (is_param features) (is_param 0) (bare_is_param features) ps outer.1)
 
@@ -78,9 +83,56 @@ module _ (s : Chosen) (around features : ℕ) where
 
   kept_ctor : (c : Constructor) → is_ctor features c ≡ true → is_ctor 0 (projected_ctor s around c) ≡ true
   kept_ctor c e =
-      let outer = and_parts (are_params features c.params && are_sents features c.sends) (are_sents features c.assigns) e in
-      let inner = and_parts (are_params features c.params) (are_sents features c.sends) outer.0 in
-      and_from _ _ (and_from _ _ (kept_params c.params inner.0) (kept_sents c.sends inner.1)) (kept_sents c.assigns outer.1)
+      let outer = and_parts (are_params most_in_ctor features c.params && are_sents features c.sends) (are_sents features c.assigns) e in
+      let inner = and_parts (are_params most_in_ctor features c.params) (are_sents features c.sends) outer.0 in
+      and_from _ _ (and_from _ _ (kept_params most_in_ctor c.params inner.0) (kept_sents c.sends inner.1)) (kept_sents c.assigns outer.1)
+
+  kept_body : (x : Expr) → is_body features x ≡ true → is_body 0 (projected_expr s around x) ≡ true
+  kept_body x e =
+      let y = projected_expr s around x in
+      let named = is_named features x in
+      let few = nat_le (node_count x) most_nodes in
+      let shallow = nat_le (nest x) most_nest in
+      let outer = and_parts (named && few && shallow) (rise_from 0 (slots x)) e in
+      let middle = and_parts (named && few) shallow outer.0 in
+      let inner = and_parts named few middle.0 in
+      and_from _ _
+      (and_from _ _
+      (and_from _ _ (stays_named s features x around inner.0) (at_most (node_count y) (node_count x) most_nodes (loses_nodes s x around) inner.1))
+      (at_most (nest y) (nest x) most_nest (stays_shallow s x around).depth middle.1))
+      (rise_sublist (slots y) (slots x) (keeps_slots s x around) outer.1)
+
+unmarked_heading : (a b known c : Bool) → (a && b && known && c) ≡ true → (a && b && true && c) ≡ true
+unmarked_heading a b known c h =
+    let outer = and_parts (a && b && known) c h in
+    let inner = and_parts (a && b) known outer.0 in
+    and_from (a && b && true) c (and_from (a && b) true inner.0 refl) outer.1
+
+module _ (s : Chosen) (around features : ℕ) where
+  kept_method : (m : Method) → is_method features m ≡ true → is_method 0 (projected_method s around m) ≡ true
+  unfolding is_method
+  kept_method m e =
+      let single = m.alt == 0 in
+      let known = are_known features m.colors in
+      let result = is_short_identifier m.result in
+      let named = is_short_identifier m.name in
+      let params = are_params most_params features m.params in
+      let outer = and_parts (single && known && result && named && params) (is_body features m.body) e in
+      let inner = and_parts (single && known && result && named) params outer.0 in
+      let within = presence_of around m.colors in
+      and_from _ _
+      (and_from _ _ (unmarked_4 single known result named inner.0) (kept_params s within features most_params m.params inner.1))
+      (kept_body s within features m.body outer.1)
+
+  kept_methods : (ms : List Method) → are_methods features ms ≡ true → are_methods 0 (present_methods s around ms) ≡ true
+  kept_methods ms e =
+      let keeps : Method → Bool = λ m. is_present s (presence_of around m.colors) in
+      let made = projected_method s around in
+      let outer = and_parts (nat_le (length ms) most_methods && are_distinct (map (λ (m : Method). m.name) ms)) (list_all (is_method features) ms) e in
+      let inner = and_parts (nat_le (length ms) most_methods) (are_distinct (map (λ (m : Method). m.name) ms)) outer.0 in
+      and_from _ _
+      (and_from _ _ (few_kept made keeps most_methods ms inner.0) (distinct_kept made keeps (λ m. m.name) ms inner.1))
+      (all_kept made keeps (is_method features) (is_method 0) kept_method ms outer.1)
 
 kept_class : (s : Chosen) (features : ℕ) (k : Class) → is_class features k ≡ true → is_class 0 (projected_class s k) ≡ true
 unfolding is_class
@@ -90,16 +142,21 @@ kept_class s features k e =
     let known = are_known features k.colors in
     let under = is_short_identifier k.parent in
     let fields = are_fields features k.fields in
-    let ctor = and_parts (named && own && known && under && fields) (is_ctor features k.ctor) e in
-    let body = and_parts (named && own && known && under) fields ctor.0 in
+    let ctor = is_ctor features k.ctor in
+    let whole = and_parts (named && own && known && under && fields && ctor) (are_methods features k.methods) e in
+    let built = and_parts (named && own && known && under && fields) ctor whole.0 in
+    let body = and_parts (named && own && known && under) fields built.0 in
     let heading = unmarked_heading named own known under body.0 in
-    and_from _ _ (and_from _ _ heading (kept_fields s k.colors features k.fields body.1)) (kept_ctor s k.colors features k.ctor ctor.1)
-  where
-    unmarked_heading : (a b known c : Bool) → (a && b && known && c) ≡ true → (a && b && true && c) ≡ true
-    unmarked_heading a b known c h =
-        let outer = and_parts (a && b && known) c h in
-        let inner = and_parts (a && b) known outer.0 in
-        and_from (a && b && true) c (and_from (a && b) true inner.0 refl) outer.1
+    and_from _ _
+    (and_from _ _ (and_from _ _ heading (kept_fields s k.colors features k.fields body.1)) (kept_ctor s k.colors features k.ctor built.1))
+    (kept_methods s k.colors features k.methods whole.1)
+
+kept_method_size : (s : Chosen) (around : ℕ) (m : Method) → method_size (projected_method s around m) ≤ method_size m
+kept_method_size s around m =
+    let within = presence_of around m.colors in
+    let params = length_kept bare_param (λ p. is_present s (presence_of within p.colors)) m.params in
+    let nodes = loses_nodes s m.body within in
+    omega arith
 
 kept_size : (s : Chosen) (k : Class) → class_size (projected_class s k) ≤ class_size k
 kept_size s k =
@@ -107,6 +164,7 @@ kept_size s k =
     let params = length_kept bare_param (λ p. is_present s (presence_of k.colors p.colors)) k.ctor.params in
     let sends = length_kept bare_sent (λ a. is_present s (presence_of k.colors a.colors)) k.ctor.sends in
     let assigns = length_kept bare_sent (λ a. is_present s (presence_of k.colors a.colors)) k.ctor.assigns in
+    let methods = sum_kept (projected_method s k.colors) (λ m. is_present s (presence_of k.colors m.colors)) method_size method_size (kept_method_size s k.colors) k.methods in
     omega arith
 
 -- what a project keeps, its variant keeps
@@ -119,6 +177,8 @@ variant_is_project s p h =
       few_features = refl;
       features_named = refl;
       features_distinct = refl;
+      few_formula_nodes = refl;
+      each_constraint = refl;
       few_classes = few_kept made keeps most_classes p.classes h.few_classes;
       classes_distinct = distinct_kept made keeps (λ k. k.name) p.classes h.classes_distinct;
       each_class = all_kept made keeps (is_class (length p.model.features)) (is_class 0) (kept_class s (length p.model.features)) p.classes h.each_class;
@@ -128,16 +188,26 @@ variant_is_project s p h =
 unmarked : {A B : Type 0} (bare : A → B) (colors : B → ℕ) (keeps : A → Bool) → ((x : A) → (colors (bare x) == 0) ≡ true) → (xs : List A) → list_all (λ y. colors y == 0) (map bare (filter keeps xs)) ≡ true
 unmarked bare colors keeps h xs = all_made bare keeps (λ y. colors y == 0) h xs
 
+plain_method : (s : Chosen) (around : ℕ) (m : Method) → is_plain_method (projected_method s around m) ≡ true
+unfolding is_plain_method
+plain_method s around m =
+    let within = presence_of around m.colors in
+    and_from _ _
+    (unmarked bare_param (λ (p : Param). p.colors) (λ p. is_present s (presence_of within p.colors)) (λ p. refl) m.params)
+    (becomes_bare s m.body within)
+
 plain_class : (s : Chosen) (k : Class) → is_plain_class (projected_class s k) ≡ true
 unfolding is_plain_class
 plain_class s k =
     and_from _ _
     (and_from _ _
     (and_from _ _
+    (and_from _ _
     (unmarked bare_field (λ (f : Field). f.colors) (λ f. is_present s (presence_of k.colors f.colors)) (λ f. refl) k.fields)
     (unmarked bare_param (λ (p : Param). p.colors) (λ p. is_present s (presence_of k.colors p.colors)) (λ p. refl) k.ctor.params))
     (unmarked bare_sent (λ (a : Sent). a.colors) (λ a. is_present s (presence_of k.colors a.colors)) (λ a. refl) k.ctor.sends))
-    (unmarked bare_sent (λ (a : Sent). a.colors) (λ a. is_present s (presence_of k.colors a.colors)) (λ a. refl) k.ctor.assigns)
+    (unmarked bare_sent (λ (a : Sent). a.colors) (λ a. is_present s (presence_of k.colors a.colors)) (λ a. refl) k.ctor.assigns))
+    (all_made (projected_method s k.colors) (λ m. is_present s (presence_of k.colors m.colors)) is_plain_method (plain_method s k.colors) k.methods)
 
 -- nothing in a variant is marked
 pub variant_is_plain : (s : Chosen) (p : ProductLine) → IsPlain (projected s p)
@@ -145,6 +215,6 @@ unfolding projected
 variant_is_plain s p = all_made (projected_class s) (λ k. is_present s k.colors) is_plain_class (plain_class s) p.classes
 
 -- the present classes without features are the variant
-pub variant_is : (s : Chosen) (p : ProductLine) (model : FeatureModel) (classes : List Class) → model ≡ record { features = [] } → classes ≡ present_classes s p.classes → record { model = model; classes = classes } ≡ projected s p
+pub variant_is : (s : Chosen) (p : ProductLine) (model : FeatureModel) (classes : List Class) → model ≡ record { features = []; constraints = [] } → classes ≡ present_classes s p.classes → record { model = model; classes = classes } ≡ projected s p
 unfolding projected
 variant_is s p model classes m k = rw (m, k) refl

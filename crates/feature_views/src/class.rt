@@ -16,6 +16,7 @@ pub fn class_of(alloc: Global, class: &Class, selection: &Selection) -> Result<C
         parent: class.parent.copy(alloc)?,
         fields: selected(alloc, &class.fields, selection)?,
         ctor: ctor_of(alloc, class, selection)?,
+        methods: selected(alloc, &class.methods, selection)?,
     })
 }
 

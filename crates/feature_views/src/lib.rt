@@ -6,6 +6,7 @@
 #![tactic(auto)]
 
 mod class;
+mod expr;
 mod node;
 mod variant;
 

@@ -1,7 +1,9 @@
 ghost use Rattle.std.specs.Prelude.{◌≡◌, ℕ, IfOk};
+ghost use Rattle.cfj_model.specs.Selections.{Chosen};
 ghost use Rattle.feature_views.specs.Selected.{selected_nodes};
 
-use cfj_model::{Colors, Field, Items, Param, Selection, Sent};
+use crate::expr::selected_expr;
+use cfj_model::{Colors, Field, Items, Method, Param, Selection, Sent};
 use std::alloc::{AllocError, Global};
 
 /// A part of a class that may be marked by itself.
@@ -9,31 +11,31 @@ pub trait Node {
     /// Its colours, as a set of bits.
     ghost colors_of: { Self → ℕ };
 
-    /// The node without its colours.
-    ghost bare_of: { Self → Self };
+    /// The node with its selected parts, without its colours.
+    ghost kept_of: { Chosen → Self → Self };
 
     /// The features it is marked with.
     fn colors(&self) -> Colors
         ensures { result ≡ colors_of self.now };
 
-    /// A copy without colours.
-    fn bare(&self, alloc: Global) -> Result<Self, AllocError>
-        ensures { IfOk result (λ bare. bare ≡ bare_of self.now) };
+    /// A copy of its selected parts, without colours.
+    fn kept(&self, alloc: Global, selection: &Selection) -> Result<Self, AllocError>
+        ensures { IfOk result (λ kept. kept ≡ kept_of selection.now self.now) };
 }
 
-/// The nodes whose own colours are all selected, in order, without their colours.
+/// The nodes whose own colours are all selected, in order, with their selected parts and without their colours.
 pub fn selected<N: Node + Drop>(
     alloc: Global,
     nodes: &Items<N>,
     selection: &Selection,
 ) -> Result<Items<N>, AllocError>
-    ensures { IfOk result (λ kept. kept ≡ selected_nodes N.colors_of N.bare_of selection.now nodes.now) }
+    ensures { IfOk result (λ kept. kept ≡ selected_nodes N.colors_of (N.kept_of selection.now) selection.now nodes.now) }
 {
     let nodes = nodes.slice();
     let mut kept = Vec::new(alloc);
     'nodes: for node in nodes {
         if selection.includes(node.colors()) {
-            kept.push(node.bare(alloc)?)?;
+            kept.push(node.kept(alloc, selection)?)?;
         }
     }
     Ok(Items::of(kept))
@@ -44,13 +46,13 @@ impl Node for Field {
 
     ghost colors_of = { λ field. field.colors };
 
-    ghost bare_of = { bare_field };
+    ghost kept_of = { λ _. bare_field };
 
     fn colors(&self) -> Colors {
         self.colors
     }
 
-    fn bare(&self, alloc: Global) -> Result<Field, AllocError> {
+    fn kept(&self, alloc: Global, _selection: &Selection) -> Result<Field, AllocError> {
         Ok(Field {
             alt: self.alt,
             colors: Colors::empty(),
@@ -65,13 +67,13 @@ impl Node for Param {
 
     ghost colors_of = { λ param. param.colors };
 
-    ghost bare_of = { bare_param };
+    ghost kept_of = { λ _. bare_param };
 
     fn colors(&self) -> Colors {
         self.colors
     }
 
-    fn bare(&self, alloc: Global) -> Result<Param, AllocError> {
+    fn kept(&self, alloc: Global, _selection: &Selection) -> Result<Param, AllocError> {
         Ok(Param {
             slot: self.slot,
             colors: Colors::empty(),
@@ -86,17 +88,40 @@ impl Node for Sent {
 
     ghost colors_of = { λ sent. sent.colors };
 
-    ghost bare_of = { bare_sent };
+    ghost kept_of = { λ _. bare_sent };
 
     fn colors(&self) -> Colors {
         self.colors
     }
 
-    fn bare(&self, alloc: Global) -> Result<Sent, AllocError> {
+    fn kept(&self, alloc: Global, _selection: &Selection) -> Result<Sent, AllocError> {
         Ok(Sent {
             slot: self.slot,
             colors: Colors::empty(),
             name: self.name.copy(alloc)?,
+        })
+    }
+}
+
+impl Node for Method {
+    ghost use Rattle.feature_views.specs.Selected.{selected_method};
+
+    ghost colors_of = { λ method. method.colors };
+
+    ghost kept_of = { selected_method };
+
+    fn colors(&self) -> Colors {
+        self.colors
+    }
+
+    fn kept(&self, alloc: Global, selection: &Selection) -> Result<Method, AllocError> {
+        Ok(Method {
+            alt: self.alt,
+            colors: Colors::empty(),
+            result: self.result.copy(alloc)?,
+            name: self.name.copy(alloc)?,
+            params: selected(alloc, &self.params, selection)?,
+            body: selected_expr(alloc, &self.body, selection)?,
         })
     }
 }

@@ -27,10 +27,17 @@ pub fn project(
 }
 
 fn no_features(alloc: Global) -> Result<Arc<FeatureModel>, AllocError>
-    ensures { IfOk result (λ model. model.value ≡ record { features = [] }) }
+    ensures { IfOk result (λ model. model.value ≡ record { features = []; constraints = [] }) }
 {
     let features = Items::of(Vec::new(alloc));
-    Ok(Arc::new(alloc, FeatureModel { features })?)
+    let constraints = Items::of(Vec::new(alloc));
+    Ok(Arc::new(
+        alloc,
+        FeatureModel {
+            features,
+            constraints,
+        },
+    )?)
 }
 
 fn classes(

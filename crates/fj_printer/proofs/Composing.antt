@@ -61,6 +61,10 @@ adds_then {a} {b} {c} {p} {q} {r = Err e} h k = record {
   cause = cause_then h.cause k.cause;
 }
 
+-- a text that is told in another way
+pub adds_as : {a b : Outlet} {p q : List ℕ} {r : Result Unit Failed} → q ≡ p → Carries a b p r → Carries a b q r
+adds_as {a} {b} {r = r} e h = let P : List ℕ → Type 0 = λ t. Carries a b t r in subst P (sym e) h
+
 -- a text after which nothing more is tried
 pub adds_before : {a b : Outlet} {p : List ℕ} {e : Failed} (q : List ℕ) → Carries a b p (Err e) → Carries a b (p ++ q) (Err e)
 adds_before {a} {p = p} q h = record { taken = cut_before a.pending p q h.taken; named = h.named; cause = h.cause }

@@ -6,6 +6,7 @@ ghost use Rattle.fj_printer.specs.Parts.{class_head_text};
 use crate::buffer::Buffer;
 use crate::ctors::ctor;
 use crate::marks::marked;
+use crate::methods::methods;
 use crate::pieces::add_all;
 use cfj_model::{Class, Field, Items, Name};
 use cide_io::{Failed, Sink};
@@ -23,6 +24,7 @@ pub fn class<K: Sink>(
     head(buffer, sink, features, class)?;
     fields(buffer, sink, features, &class.fields)?;
     ctor(buffer, sink, features, &class.name, &class.ctor)?;
+    methods(buffer, sink, features, &class.methods)?;
     add_all(buffer, sink, &["}\n"])
 }
 

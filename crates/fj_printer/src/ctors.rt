@@ -35,7 +35,8 @@ fn head<K: Sink>(buffer: &mut Buffer, sink: &mut K, name: &Name) -> Result<(), F
     add_all(buffer, sink, &["  ", name.text(), "("])
 }
 
-fn params<K: Sink>(
+/// Adds parameters, between commas.
+pub fn params<K: Sink>(
     buffer: &mut Buffer,
     sink: &mut K,
     features: &[Name],

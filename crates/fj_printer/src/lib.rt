@@ -11,8 +11,11 @@
 mod buffer;
 mod classes;
 mod ctors;
+mod exprs;
 mod features;
+mod formulas;
 mod marks;
+mod methods;
 mod pieces;
 mod project;
 

@@ -24,7 +24,8 @@ pub fn marked<K: Sink>(
     add_all(buffer, sink, rest)
 }
 
-fn marks<K: Sink>(
+/// Adds the marks of a node, in declaration order.
+pub fn marks<K: Sink>(
     buffer: &mut Buffer,
     sink: &mut K,
     features: &[Name],

@@ -8,12 +8,13 @@ ghost use Rattle.fj_printer.specs.Adds.{Adds};
 use crate::buffer::Buffer;
 use crate::classes::class as add_class;
 use crate::features::feature_line;
+use crate::formulas::constraint_lines;
 use crate::pieces::flush;
 use cfj_model::{Class, FeatureModel, Name, Project};
 use cide_io::{Failed, Sink};
 
-/// Appends the printed form of a project to what a sink holds, in pieces of up to 4,096 bytes: the feature line, and the
-/// classes with their marks.
+/// Appends the printed form of a project to what a sink holds, in pieces of up to 4,096 bytes: the feature line, a line for
+/// each constraint, and the classes with their marks.
 ///
 /// After a failure the sink holds a proper prefix of that form behind what it held. No memory is taken.
 pub fn print_project<K: Sink>(project: &Project, sink: &mut K) -> Result<(), Failed>
@@ -21,9 +22,11 @@ pub fn print_project<K: Sink>(project: &Project, sink: &mut K) -> Result<(), Fai
     ensures named { K.name sink.new ≡ K.name sink.old }
     ensures cause { HasCause (K.faults sink.old) (K.faults sink.new) result }
 {
-    let features = project.model().features.slice();
+    let model = project.model();
+    let features = model.features.slice();
     let mut buffer = Buffer::new();
     feature_line(&mut buffer, sink, features)?;
+    constraint_lines(&mut buffer, sink, features, model.constraints.slice())?;
     classes(&mut buffer, sink, features, project)?;
     flush(&mut buffer, sink)
 }

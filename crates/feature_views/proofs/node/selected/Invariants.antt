@@ -4,5 +4,5 @@ use Rattle.feature_views.proofs.node.selected.Given as goal
 
 abbrev pub invariant-nodes : goal.invariant-nodes
 invariant-nodes g l =
-    l.kept.items ++ selected_nodes g.N.Node.colors_of g.N.Node.bare_of l.selection (drop l.node-index l.nodes)
-    ≡ selected_nodes g.N.Node.colors_of g.N.Node.bare_of l.selection l.nodes
+    l.kept.items ++ selected_nodes g.N.Node.colors_of (g.N.Node.kept_of l.selection) l.selection (drop l.node-index l.nodes)
+    ≡ selected_nodes g.N.Node.colors_of (g.N.Node.kept_of l.selection) l.selection l.nodes

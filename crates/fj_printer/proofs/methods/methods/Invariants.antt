@@ -1,0 +1,10 @@
+use Rattle.std.proofs.Common.{take, Ok}
+use Rattle.cfj_model.specs.Print.{texts, method_text}
+use Rattle.fj_printer.specs.Adds.{Adds}
+use Rattle.fj_printer.proofs.methods.methods.Given as goal
+
+abbrev pub invariant-methods : goal.invariant-methods
+invariant-methods g l =
+    Adds g.K.Sink.held g.K.Sink.name g.K.Sink.faults l.fn.sink l.fn.buffer l.sink l.buffer
+    (texts (method_text l.features) (take l.item-index l.list))
+    (Ok tt)

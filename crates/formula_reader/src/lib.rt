@@ -1,0 +1,12 @@
+//! Reads a formula of a feature model, one token at a time.
+//!
+//! The reader is a machine that never looks ahead: what was read to the left of a connective waits in a frame until a token
+//! comes that binds no tighter. It ends at the semicolon behind the formula.
+#![tactic(auto)]
+
+mod frame;
+mod mode;
+mod reader;
+mod stack;
+
+pub use reader::FormulaReader;

@@ -7,21 +7,17 @@ use Rattle.formula_reader.specs.declared.frame.Frame.{Frame}
 use Rattle.formula_reader.specs.declared.frame.Frame.TheVariants.{InAnd, InOr, InImplies, InIff, InNot, InBracket}
 use Rattle.formula_reader.specs.declared.mode.Mode.{Mode}
 use Rattle.formula_reader.specs.declared.mode.Mode.TheVariants.{Want, After, Done}
-use Rattle.formula_reader.specs.Machine.{State, at, start, Run, run}
+use Rattle.formula_reader.specs.Machine.{State, at, start, is_done, Run, run}
 use Rattle.formula_reader.proofs.Complete.{AfterIff, at_close, at_semicolon, AfterImplies, at_iff, behind_iff, AfterOr, at_implies, behind_implies, AfterAnd, at_or, behind_or, AfterUnary, at_and, behind_and, WithinIff, in_nothing, in_bracket, WithinImplies, in_iff, as_iff, WithinOr, in_implies, as_implies, WithinAnd, in_or, as_or, not_done, and_done, or_done, implies_done, iff_done, and_waits, or_waits, implies_waits, iff_waits}
 
--- the formula is read
-abbrev pub is_done_in : Mode → Bool
-is_done_in (Done x) = true
-is_done_in _ = false
-
-abbrev pub is_done : Option State → Bool
-is_done None = false
-is_done (Some s) = is_done_in s.mode
+-- a formula is read
+abbrev pub is_whole : Option State → Bool
+is_whole None = false
+is_whole (Some s) = is_done s
 
 -- a run to the end of a formula
 abbrev pub Ends : Run → Type 0
-Ends p = is_done p.0 ≡ true
+Ends p = is_whole p.0 ≡ true
 
 -- the tokens lead from this state to such an end
 abbrev pub Accepts : List (List ℕ) → List Token → State → Type 0
@@ -73,6 +69,14 @@ module _ (features : List (List ℕ)) where
 
   abbrev ReadIffOn : List Frame → IffTree → List Token → Type 0
   ReadIffOn = ReadOn features IffTree spell_iff (value_iff features) AfterIff
+
+  -- A tree with which one of a looser level begins, and how that one goes on.
+  begun : {X Y : Type 0} {text : X → List Token → List Token} {value : X → Formula} {Follows : List Token → Type 0} {whole : Y → List Token → List Token} {total : Y → Formula} {Follows_whole : List Token → Type 0} {fs : List Frame} {ts : List Token} (u : Read features X text value Follows fs ts) (left : Y) → text u.tree u.rest ≡ whole left u.rest → ReadOn features Y whole total Follows_whole fs left u.rest → Read features Y whole total Follows_whole fs ts
+  begun u left is m = record { tree = m.tree; rest = m.rest; spelled = u.spelled ∙ is ∙ m.spelled; shorter = omega (arith, u.shorter, m.shorter); follows = m.follows; goes = m.goes }
+
+  -- A tree behind a connective, the left end that they make, and how it goes on.
+  joined : {X Y : Type 0} {text : X → List Token → List Token} {value : X → Formula} {Follows : List Token → Type 0} {whole : Y → List Token → List Token} {total : Y → Formula} {Follows_whole : List Token → Type 0} {fs gs : List Frame} {ts : List Token} (t : Token) (u : Read features X text value Follows gs ts) (left both : Y) → ((us : List Token) → whole left (t ∷ text u.tree us) ≡ whole both us) → ReadOn features Y whole total Follows_whole fs both u.rest → ReadOn features Y whole total Follows_whole fs left (t ∷ ts)
+  joined {whole = whole} t u left both is m = record { tree = m.tree; rest = m.rest; spelled = ap (λ v. whole left (t ∷ v)) u.spelled ∙ is u.rest ∙ m.spelled; shorter = omega (arith, u.shorter, m.shorter); follows = m.follows; goes = m.goes }
 
   -- What is accepted behind an operand may follow it.
   follows_operand : (ts : List Token) (fs : List Frame) (y : Formula) → Accepts features ts (at fs (After y)) → AfterUnary ts
@@ -153,13 +157,13 @@ module _ (features : List (List ℕ)) where
     and_on_read _ (at_and ts) le fs w x h =
         let u = r.unary ts (omega arith) (InAnd (value_and features x) ∷ fs) (subst Ends (and_waits features fs w ts (value_and features x)) h) in
         let m = r.and_on u.rest u.follows (omega (arith, u.shorter)) fs w (and x u.tree) (subst Ends (and_done features u.rest u.follows fs (value_and features x) (value_unary features u.tree)) u.goes) in
-        record { tree = m.tree; rest = m.rest; spelled = ap (λ v. spell_and x (Ampersand ∷ v)) u.spelled ∙ m.spelled; shorter = omega (arith, u.shorter, m.shorter); follows = m.follows; goes = m.goes }
+        joined Ampersand u x (and x u.tree) (λ us. refl) m
 
     and_read : (ts : List Token) → length ts ≤ suc k → (fs : List Frame) → WithinAnd fs → Accepts features ts (at fs Want) → ReadAnd fs ts
     and_read ts le fs w h =
         let u = unary_read ts le fs h in
         let m = r.and_on u.rest u.follows (omega (arith, u.shorter)) fs w (one_unary u.tree) u.goes in
-        record { tree = m.tree; rest = m.rest; spelled = u.spelled ∙ m.spelled; shorter = omega (arith, u.shorter, m.shorter); follows = m.follows; goes = m.goes }
+        begun u (one_unary u.tree) refl m
 
     -- or
     or_on_read : (ts : List Token) → AfterAnd ts → length ts ≤ suc k → (fs : List Frame) → WithinOr fs → (x : OrTree) → Accepts features ts (at fs (After (value_or features x))) → ReadOrOn fs x ts
@@ -167,13 +171,13 @@ module _ (features : List (List ℕ)) where
     or_on_read _ (at_or ts) le fs w x h =
         let u = r.and_level ts (omega arith) (InOr (value_or features x) ∷ fs) (in_or (value_or features x) w) (subst Ends (or_waits features fs w ts (value_or features x)) h) in
         let m = r.or_on u.rest u.follows (omega (arith, u.shorter)) fs w (or x u.tree) (subst Ends (or_done features u.rest u.follows fs (value_or features x) (value_and features u.tree)) u.goes) in
-        record { tree = m.tree; rest = m.rest; spelled = ap (λ v. spell_or x (Bar ∷ v)) u.spelled ∙ m.spelled; shorter = omega (arith, u.shorter, m.shorter); follows = m.follows; goes = m.goes }
+        joined Bar u x (or x u.tree) (λ us. refl) m
 
     or_read : (ts : List Token) → length ts ≤ suc k → (fs : List Frame) → WithinOr fs → Accepts features ts (at fs Want) → ReadOr fs ts
     or_read ts le fs w h =
         let u = and_read ts le fs (as_or w) h in
         let m = r.or_on u.rest u.follows (omega (arith, u.shorter)) fs w (one_and u.tree) u.goes in
-        record { tree = m.tree; rest = m.rest; spelled = u.spelled ∙ m.spelled; shorter = omega (arith, u.shorter, m.shorter); follows = m.follows; goes = m.goes }
+        begun u (one_and u.tree) refl m
 
     -- imp: behind its left side
     implies_on_read : (x : OrTree) (ts : List Token) → AfterOr ts → length ts ≤ k → (fs : List Frame) → WithinOr fs → Accepts features ts (at fs (After (value_or features x))) → ReadOn features ImpliesTree spell_implies (value_implies features) AfterImplies fs (one_or x) ts
@@ -193,7 +197,7 @@ module _ (features : List (List ℕ)) where
     implies_read ts le fs w h =
         let u = or_read ts le fs w h in
         let m = implies_on_read u.tree u.rest u.follows (omega (arith, u.shorter)) fs w u.goes in
-        record { tree = m.tree; rest = m.rest; spelled = u.spelled ∙ m.spelled; shorter = omega (arith, u.shorter, m.shorter); follows = m.follows; goes = m.goes }
+        begun u (one_or u.tree) refl m
 
     -- iff
     iff_on_read : (ts : List Token) → AfterImplies ts → length ts ≤ suc k → (fs : List Frame) → WithinIff fs → (x : IffTree) → Accepts features ts (at fs (After (value_iff features x))) → ReadIffOn fs x ts
@@ -201,13 +205,13 @@ module _ (features : List (List ℕ)) where
     iff_on_read _ (at_iff ts) le fs w x h =
         let u = r.implies_level ts (omega arith) (InIff (value_iff features x) ∷ fs) (as_implies (in_iff (value_iff features x) w)) (subst Ends (iff_waits features fs w ts (value_iff features x)) h) in
         let m = r.iff_on u.rest u.follows (omega (arith, u.shorter)) fs w (iff x u.tree) (subst Ends (iff_done features u.rest u.follows fs (value_iff features x) (value_implies features u.tree)) u.goes) in
-        record { tree = m.tree; rest = m.rest; spelled = ap (λ v. spell_iff x (DoubleArrow ∷ v)) u.spelled ∙ m.spelled; shorter = omega (arith, u.shorter, m.shorter); follows = m.follows; goes = m.goes }
+        joined DoubleArrow u x (iff x u.tree) (λ us. refl) m
 
     iff_read : (ts : List Token) → length ts ≤ suc k → (fs : List Frame) → WithinIff fs → Accepts features ts (at fs Want) → ReadIff fs ts
     iff_read ts le fs w h =
         let u = implies_read ts le fs (as_implies (as_iff w)) h in
         let m = r.iff_on u.rest u.follows (omega (arith, u.shorter)) fs w (one_implies u.tree) u.goes in
-        record { tree = m.tree; rest = m.rest; spelled = u.spelled ∙ m.spelled; shorter = omega (arith, u.shorter, m.shorter); follows = m.follows; goes = m.goes }
+        begun u (one_implies u.tree) refl m
 
   -- ---- no text is empty
 

@@ -127,6 +127,14 @@ takes_name_in _ = false
 abbrev pub takes_name : State → Bool
 takes_name s = takes_name_in s.mode
 
+abbrev pub is_done_in : Mode → Bool
+is_done_in (Done x) = true
+is_done_in _ = false
+
+-- the formula and its semicolon are read
+abbrev pub is_done : State → Bool
+is_done s = is_done_in s.mode
+
 abbrev pub formula_in : Mode → Option Formula
 formula_in (Done x) = Some x
 formula_in _ = None

@@ -74,32 +74,45 @@ abbrev pub ended : List Frame → Formula → Option State
 ended [] y = Some (done y)
 ended (fr ∷ frames) y = None
 
--- Over these features. Before `->` the frames of other `->` stay: it binds to the right; the other connectives bind to the left.
+-- where an operand has to begin, over these features
+abbrev pub want : List (List ℕ) → List Frame → Token → Option State
+want features frames (Id w) = Some (at frames (After (feature_named features w)))
+want features frames TrueWord = Some (at frames (After f.True))
+want features frames FalseWord = Some (at frames (After f.False))
+want features frames Bang = Some (at (InNot ∷ frames) Want)
+want features frames OpenParen = Some (at (InBracket ∷ frames) Want)
+want features frames t = None
+
+-- Behind an operand. An `->` leaves the frames of others open, since it binds to the right; the other connectives bind to the left.
+abbrev pub after : List Frame → Formula → Token → Option State
+after frames y Ampersand = Some (in_and (reduce 4 frames y))
+after frames y Bar = Some (in_or (reduce 3 frames y))
+after frames y Arrow = Some (in_implies (reduce 3 frames y))
+after frames y DoubleArrow = Some (in_iff (reduce 1 frames y))
+after frames y CloseParen = let r = reduce 1 frames y in closed r.0 r.1
+after frames y Semicolon = let r = reduce 1 frames y in ended r.0 r.1
+after frames y t = None
+
 abbrev pub step_in : List (List ℕ) → List Frame → Mode → Token → Option State
-step_in features frames Want (Id w) = Some (at frames (After (feature_named features w)))
-step_in features frames Want TrueWord = Some (at frames (After f.True))
-step_in features frames Want FalseWord = Some (at frames (After f.False))
-step_in features frames Want Bang = Some (at (InNot ∷ frames) Want)
-step_in features frames Want OpenParen = Some (at (InBracket ∷ frames) Want)
-step_in features frames (After y) Ampersand = Some (in_and (reduce 4 frames y))
-step_in features frames (After y) Bar = Some (in_or (reduce 3 frames y))
-step_in features frames (After y) Arrow = Some (in_implies (reduce 3 frames y))
-step_in features frames (After y) DoubleArrow = Some (in_iff (reduce 1 frames y))
-step_in features frames (After y) CloseParen = let r = reduce 1 frames y in closed r.0 r.1
-step_in features frames (After y) Semicolon = let r = reduce 1 frames y in ended r.0 r.1
-step_in features frames mode t = None
+step_in features frames Want t = want features frames t
+step_in features frames (After y) t = after frames y t
+step_in features frames (Done y) t = None
 
 -- the next state; none where the token can't go on
 abbrev pub step : List (List ℕ) → State → Token → Option State
 step features s t = step_in features s.frames s.mode t
 
--- how many brackets, `!` and `->` are open
+-- a bracket, `!` or `->`
+abbrev pub nests : Frame → Bool
+nests InBracket = true
+nests InNot = true
+nests (InImplies x) = true
+nests _ = false
+
+-- how many of them are open
 abbrev pub depth : List Frame → ℕ
 depth [] = 0
-depth (InBracket ∷ frames) = depth frames + 1
-depth (InNot ∷ frames) = depth frames + 1
-depth (InImplies x ∷ frames) = depth frames + 1
-depth (_ ∷ frames) = depth frames
+depth (fr ∷ frames) = if nests fr then depth frames + 1 else depth frames
 
 -- and behind the left side of an `->`
 abbrev pub depth_left : List Frame → ℕ

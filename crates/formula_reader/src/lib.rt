@@ -5,8 +5,10 @@
 #![tactic(auto)]
 
 mod frame;
+mod frames;
 mod mode;
 mod reader;
 mod stack;
+mod steps;
 
 pub use reader::FormulaReader;

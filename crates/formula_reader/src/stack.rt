@@ -1,4 +1,5 @@
-ghost use Rattle.std.specs.Prelude.{◌≡◌, [], ◌∷◌, OnOk, MatchOption};
+ghost use Rattle.std.specs.Prelude.{◌≡◌, [], ◌∷◌, OnOk, MatchOption, reverse, slice_get};
+ghost use Rattle.std.specs.Option.{option_copied};
 
 use std::alloc::{AllocError, Global};
 use std::marker::Model;
@@ -28,6 +29,13 @@ impl<T> Stack<T> {
         Stack {
             items: Vec::new(alloc),
         }
+    }
+
+    /// The items, with the top last.
+    pub fn items(&self) -> &[T]
+        ensures { reverse result.now ≡ self.now }
+    {
+        &self.items
     }
 
     /// Takes the item on top, where there is one.

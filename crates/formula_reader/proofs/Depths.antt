@@ -11,17 +11,3 @@ depth_is fs = is_count_by depth nests refl (λ fr gs. one_more (nests fr) (depth
     one_more : (b : Bool) (n : ℕ) → (if b then n + 1 else n) ≡ cond b (1 + n) n
     one_more true n = omega arith
     one_more false n = refl
-
--- the frames of a left side of `->`
-abbrev pub is_left : Frame → Bool
-is_left fr = nat_le 3 (level fr)
-
-pub depth_left_is : (fs : List Frame) → depth_left fs ≡ count_by nests (drop (prefix_len is_left fs) fs)
-depth_left_is [] = refl
-depth_left_is (fr ∷ fs) = go (is_left fr) (depth_left_is fs)
-  where
-    go : (b : Bool) → depth_left fs ≡ count_by nests (drop (prefix_len is_left fs) fs) → (if b then depth_left fs else depth (fr ∷ fs)) ≡ count_by nests (drop (cond b (1 + prefix_len is_left fs) 0) (fr ∷ fs))
-    go true h =
-        let e : suc (prefix_len is_left fs) ≡ 1 + prefix_len is_left fs = omega arith in
-        h ∙ ap (λ k. count_by nests (drop k (fr ∷ fs))) e
-    go false h = depth_is (fr ∷ fs)

@@ -20,12 +20,14 @@ pub fn depth_behind_left(frames: &[Frame]) -> usize
     ensures depth { result ≡ spec.depth_left (reverse frames.now) }
     ensures within { result ≤ length frames.now }
 {
-    frames
-        .iter()
-        .rev()
-        .skip_while(|frame| frame.holds(OR_LEVEL))
-        .filter(|frame| frame.nests())
-        .count()
+    let mut open = frames;
+    'left: while let Some((innermost, outer)) = open.split_last() {
+        if !innermost.holds(OR_LEVEL) {
+            break;
+        }
+        open = outer;
+    }
+    depth_within(open)
 }
 
 /// Takes the innermost frame where it holds at least so tightly.

@@ -1,15 +1,15 @@
 -- The laws of the machine: what it has read begins a formula; where it is stuck, no formula goes on; and where a name can stand.
-use Rattle.std.proofs.Common.{◌≡◌, ℕ, suc, Bool, true, false, List, [], ◌∷◌, ◌++◌, length, Option, Some, None, refl, sym, ◌∙◌, ap, subst, arith}
+use Rattle.std.proofs.Common.{◌≡◌, ℕ, suc, Bool, true, false, List, [], ◌∷◌, ◌++◌, length, Option, Some, None, is_some, refl, sym, ◌∙◌, ap, subst, arith}
 use Rattle.cfj_model.specs.declared.formula.Formula.{Formula}
 use Rattle.cfj_model.specs.declared.formula.Formula.TheVariants as f
 use Rattle.cfj_model.specs.FormulaGrammar.{IffTree, spell_iff, roles_iff, value_iff, feature_named}
 use Rattle.cfj_model.specs.Roles.{Role, formula_node, plain}
-use Rattle.cfj_model.specs.Tokens.{Token, Id, TrueWord, CloseParen, Semicolon}
+use Rattle.cfj_model.specs.Tokens.{Token, Id, TrueWord, FalseWord, OpenParen, CloseParen, Semicolon, Bang, Ampersand, Bar, Arrow, DoubleArrow}
 use Rattle.formula_reader.specs.declared.frame.Frame.{Frame}
 use Rattle.formula_reader.specs.declared.frame.Frame.TheVariants.{InAnd, InOr, InImplies, InIff, InNot, InBracket}
 use Rattle.formula_reader.specs.declared.mode.Mode.{Mode}
 use Rattle.formula_reader.specs.declared.mode.Mode.TheVariants.{Want, After, Done}
-use Rattle.formula_reader.specs.Machine.{State, at, start, done, reduce, closed, ended, step_in, step, role, takes_name_in, takes_name, is_done_in, is_done, Run, with_role, then_run, run}
+use Rattle.formula_reader.specs.Machine.{State, at, start, done, reduce, in_and, in_or, in_implies, in_iff, closed, ended, step_in, step, role, takes_name_in, takes_name, is_done_in, is_done, Run, with_role, then_run, run}
 use Rattle.formula_reader.specs.Reading.{IsFormula, BeginsFormula}
 use Rattle.formula_reader.proofs.Complete.{AfterIff, at_close, at_semicolon, behind_iff, behind_implies, behind_or, behind_and, AfterImplies, AfterUnary, not_done, and_done, or_done, implies_done, iff_done, formula_runs}
 use Rattle.formula_reader.proofs.Sound.{is_whole, Accepts, accepted_text}
@@ -206,6 +206,33 @@ module _ (features : List (List ℕ)) where
       go fs (After y) h = ((reduce 1 fs y).1, end_is (reduce 1 fs y).0 (reduce 1 fs y).1 n h)
       go fs (Done y) h = absurd (let no : ⊥ = cc h in no)
 
+  -- a state at which the formula isn't read is none at which it is
+  undone : {A : Type 0} (m n : State) → is_done m ≡ false → Some m ≡ Some n → is_done n ≡ true → A
+  undone m n goes same h = absurd (let wrong : false ≡ true = sym goes ∙ ap is_done (some_same m n same) ∙ h in let impossible : ⊥ = cc wrong in impossible)
+
+  -- a bracket that is closed doesn't end the formula
+  closed_goes_on : {A : Type 0} (fs : List Frame) (y : Formula) (n : State) → closed fs y ≡ Some n → is_done n ≡ true → A
+  closed_goes_on (InBracket ∷ fs) y n e h = undone (at fs (After y)) n refl e h
+  closed_goes_on _ y n e h = absurd (let no : ⊥ = cc e in no)
+
+  -- and nothing else does
+  pub only_semicolon_ends : (s n : State) (t : Token) → step features s t ≡ Some n → is_done n ≡ true → t ≡ Semicolon
+  only_semicolon_ends s n t e h = go s.frames s.mode t e
+    where
+      go : (fs : List Frame) (m : Mode) (t : Token) → step_in features fs m t ≡ Some n → t ≡ Semicolon
+      go fs Want (Id w) e = undone (at fs (After (feature_named features w))) n refl e h
+      go fs Want TrueWord e = undone (at fs (After f.True)) n refl e h
+      go fs Want FalseWord e = undone (at fs (After f.False)) n refl e h
+      go fs Want Bang e = undone (at (InNot ∷ fs) Want) n refl e h
+      go fs Want OpenParen e = undone (at (InBracket ∷ fs) Want) n refl e h
+      go fs (After y) Ampersand e = undone (in_and (reduce 4 fs y)) n refl e h
+      go fs (After y) Bar e = undone (in_or (reduce 3 fs y)) n refl e h
+      go fs (After y) Arrow e = undone (in_implies (reduce 3 fs y)) n refl e h
+      go fs (After y) DoubleArrow e = undone (in_iff (reduce 1 fs y)) n refl e h
+      go fs (After y) CloseParen e = closed_goes_on (reduce 1 fs y).0 (reduce 1 fs y).1 n e h
+      go fs (After y) Semicolon e = refl
+      go fs m t e = absurd (let no : ⊥ = cc e in no)
+
   -- ---- names
 
   -- where an identifier could stand, each can
@@ -225,3 +252,11 @@ module _ (features : List (List ℕ)) where
       go fs Want h = absurd (let no : ⊥ = cc h in no)
       go fs (After y) h = refl
       go fs (Done y) h = refl
+
+  -- so one can where any can
+  pub any_name : (s : State) (w : List ℕ) → is_some (step features s (Id w)) ≡ takes_name s
+  any_name s w = go (takes_name s) refl
+    where
+      go : (b : Bool) → takes_name s ≡ b → is_some (step features s (Id w)) ≡ takes_name s
+      go true e = ap is_some (name_goes s w e) ∙ sym e
+      go false e = ap is_some (name_stops s w e) ∙ sym e

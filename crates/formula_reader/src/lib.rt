@@ -6,9 +6,11 @@
 
 mod frame;
 mod frames;
+mod laws;
 mod mode;
 mod reader;
 mod stack;
 mod steps;
 
+pub use laws::{keeps_constraints, reads_formulas};
 pub use reader::FormulaReader;

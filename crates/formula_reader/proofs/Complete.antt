@@ -126,6 +126,7 @@ module _ (features : List (List ℕ)) where
 
   mutual
     unfolding run
+
     pub unary_runs : (x : UnaryTree) (ts : List Token) → AfterUnary ts → (fs : List Frame) → run features (spell_unary x ts) (at fs Want) ≡ with_roles (roles_unary (depth fs) x) (run features ts (at fs (After (value_unary features x))))
     unary_runs (negated x) ts h fs = ap (with_role (formula_opens (depth fs + 1))) (unary_runs x ts h (InNot ∷ fs) ∙ ap (with_roles (roles_unary (depth fs + 1) x)) (not_done ts h fs (value_unary features x)))
     unary_runs (named w) ts h fs = refl

@@ -31,7 +31,7 @@ same_front (q ∷ a) (r ∷ b) x y n e =
     cc
 
 -- states that are equal behind `Some`
-some_same : (s n : State) → Some s ≡ Some n → s ≡ n
+pub some_same : (s n : State) → Some s ≡ Some n → s ≡ n
 some_same s n e = cc
 
 -- the text with which the open frames are closed

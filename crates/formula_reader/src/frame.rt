@@ -24,6 +24,9 @@ pub enum Frame {
 /// The level of a `<->`, the connective that holds least tightly.
 pub const IFF_LEVEL: u8 = 1;
 
+/// The level of an `->`.
+pub const IMPLIES_LEVEL: u8 = 2;
+
 /// The level of an `|`.
 pub const OR_LEVEL: u8 = 3;
 
@@ -38,7 +41,7 @@ impl Frame {
         match self {
             Frame::InBracket => 0,
             Frame::InIff(_) => IFF_LEVEL,
-            Frame::InImplies(_) => 2,
+            Frame::InImplies(_) => IMPLIES_LEVEL,
             Frame::InOr(_) => OR_LEVEL,
             Frame::InAnd(_) => AND_LEVEL,
             Frame::InNot => 5,
@@ -65,10 +68,22 @@ impl Frame {
     {
         match self {
             Frame::InBracket => Ok(right),
-            Frame::InIff(left) => Ok(Formula::Iff(Boxed::new(alloc, left)?, Boxed::new(alloc, right)?)),
-            Frame::InImplies(left) => Ok(Formula::Implies(Boxed::new(alloc, left)?, Boxed::new(alloc, right)?)),
-            Frame::InOr(left) => Ok(Formula::Or(Boxed::new(alloc, left)?, Boxed::new(alloc, right)?)),
-            Frame::InAnd(left) => Ok(Formula::And(Boxed::new(alloc, left)?, Boxed::new(alloc, right)?)),
+            Frame::InIff(left) => Ok(Formula::Iff(
+                Boxed::new(alloc, left)?,
+                Boxed::new(alloc, right)?,
+            )),
+            Frame::InImplies(left) => Ok(Formula::Implies(
+                Boxed::new(alloc, left)?,
+                Boxed::new(alloc, right)?,
+            )),
+            Frame::InOr(left) => Ok(Formula::Or(
+                Boxed::new(alloc, left)?,
+                Boxed::new(alloc, right)?,
+            )),
+            Frame::InAnd(left) => Ok(Formula::And(
+                Boxed::new(alloc, left)?,
+                Boxed::new(alloc, right)?,
+            )),
             Frame::InNot => Ok(Formula::Not(Boxed::new(alloc, right)?)),
         }
     }

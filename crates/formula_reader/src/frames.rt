@@ -2,7 +2,7 @@ ghost use Rattle.std.specs.Prelude.{◌≡◌, ◌≤◌, ◌∷◌, true, IfOk,
 ghost use Rattle.formula_reader.specs.Machine as spec;
 ghost use Rattle.formula_reader.specs.Views.{is_open};
 
-use crate::frame::{Frame, OR_LEVEL};
+use crate::frame::{Frame, IMPLIES_LEVEL};
 use crate::stack::Stack;
 use cfj_model::Formula;
 use std::alloc::{AllocError, Global};
@@ -22,7 +22,7 @@ pub fn depth_behind_left(frames: &[Frame]) -> usize
 {
     let mut open = frames;
     'left: while let Some((innermost, outer)) = open.split_last() {
-        if !innermost.holds(OR_LEVEL) {
+        if !innermost.holds(IMPLIES_LEVEL + 1) {
             break;
         }
         open = outer;

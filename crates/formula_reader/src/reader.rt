@@ -50,11 +50,8 @@ impl FormulaReader {
     {
         match symbol {
             Symbol::Id(name) => Role::FormulaName(name),
-            Symbol::True
-            | Symbol::False
-            | Symbol::Ampersand
-            | Symbol::Bar
-            | Symbol::DoubleArrow => Role::FormulaNode,
+            Symbol::True | Symbol::False | Symbol::Ampersand | Symbol::Bar | Symbol::DoubleArrow =>
+                Role::FormulaNode,
             Symbol::Bang => Role::FormulaOpens(depth_within(self.frames.items()) + 1),
             Symbol::OpenParen => Role::Opens(depth_within(self.frames.items()) + 1),
             Symbol::Arrow => Role::FormulaOpens(depth_behind_left(self.frames.items()) + 1),

@@ -5,7 +5,7 @@ ghost use Rattle.cfj_model.specs.Tokens.{CloseParen, Semicolon};
 ghost use Rattle.formula_reader.specs.Machine as spec;
 ghost use Rattle.formula_reader.specs.Views.{reached};
 
-use crate::frame::{AND_LEVEL, Frame, IFF_LEVEL, OR_LEVEL};
+use crate::frame::{AND_LEVEL, Frame, IFF_LEVEL, IMPLIES_LEVEL, OR_LEVEL};
 use crate::frames::reduce;
 use crate::mode::Mode;
 use crate::stack::Stack;
@@ -88,7 +88,8 @@ fn after(
             Ok(Some(Mode::Want))
         }
         Symbol::Arrow => {
-            let left = reduce(alloc, frames, operand, OR_LEVEL)?;
+            // It binds to the right: another `->` stays open.
+            let left = reduce(alloc, frames, operand, IMPLIES_LEVEL + 1)?;
             frames.push(Frame::InImplies(left))?;
             Ok(Some(Mode::Want))
         }

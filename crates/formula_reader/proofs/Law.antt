@@ -1,8 +1,8 @@
 -- The laws of the machine: what it has read begins a formula; where it is stuck, no formula goes on; and where a name can stand.
-use Rattle.std.proofs.Common.{◌≡◌, ℕ, suc, Bool, true, false, List, [], ◌∷◌, ◌++◌, length, Option, Some, None, is_some, refl, sym, ◌∙◌, ap, subst, arith}
+use Rattle.std.proofs.Common.{◌≡◌, ℕ, suc, Bool, true, false, List, [], ◌∷◌, ◌++◌, length, Option, Some, None, is_some, refl, sym, ◌∙◌, ap, arith}
 use Rattle.cfj_model.specs.declared.formula.Formula.{Formula}
 use Rattle.cfj_model.specs.declared.formula.Formula.TheVariants as f
-use Rattle.cfj_model.specs.FormulaGrammar.{IffTree, spell_iff, roles_iff, value_iff, feature_named}
+use Rattle.cfj_model.specs.FormulaGrammar.{roles_iff, value_iff, feature_named}
 use Rattle.cfj_model.specs.Roles.{Role, formula_node, plain}
 use Rattle.cfj_model.specs.Tokens.{Token, Id, TrueWord, FalseWord, OpenParen, CloseParen, Semicolon, Bang, Ampersand, Bar, Arrow, DoubleArrow}
 use Rattle.formula_reader.specs.declared.frame.Frame.{Frame}
@@ -12,7 +12,7 @@ use Rattle.formula_reader.specs.declared.mode.Mode.TheVariants.{Want, After, Don
 use Rattle.formula_reader.specs.Machine.{State, at, start, done, reduce, in_and, in_or, in_implies, in_iff, closed, ended, step_in, step, role, takes_name_in, takes_name, is_done_in, is_done, Run, with_role, then_run, run}
 use Rattle.formula_reader.specs.Reading.{IsFormula, BeginsFormula}
 use Rattle.formula_reader.proofs.Complete.{AfterIff, at_close, at_semicolon, behind_iff, behind_implies, behind_or, behind_and, AfterImplies, AfterUnary, not_done, and_done, or_done, implies_done, iff_done, formula_runs}
-use Rattle.formula_reader.proofs.Sound.{is_whole, Accepts, accepted_text}
+use Rattle.formula_reader.proofs.Sound.{is_whole, accepted_text}
 
 -- a run over more tokens
 abbrev pub on_from : List (List ℕ) → List Token → Run → Run

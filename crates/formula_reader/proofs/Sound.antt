@@ -1,14 +1,13 @@
 -- What the machine reads to its end is the text of a tree: one reader for each production, which finds the tree.
-use Rattle.std.proofs.Common.{◌≡◌, ℕ, zero, suc, ◌<◌, ◌≤◌, Bool, true, false, List, [], ◌∷◌, length, Option, Some, None, refl, sym, ◌∙◌, ap, subst, arith}
+use Rattle.std.proofs.Common.{◌≡◌, ℕ, zero, suc, ◌<◌, ◌≤◌, Bool, true, false, List, [], ◌∷◌, length, Option, Some, None, refl, ◌∙◌, ap, subst, arith}
 use Rattle.cfj_model.specs.declared.formula.Formula.{Formula}
 use Rattle.cfj_model.specs.FormulaGrammar.{IffTree, one_implies, iff, ImpliesTree, one_or, implies, OrTree, one_and, or, AndTree, one_unary, and, UnaryTree, negated, named, true_word, false_word, bracketed, spell_iff, spell_implies, spell_or, spell_and, spell_unary, value_iff, value_implies, value_or, value_and, value_unary}
 use Rattle.cfj_model.specs.Tokens.{Token, Id, TrueWord, FalseWord, OpenParen, CloseParen, Semicolon, Bang, Ampersand, Bar, Arrow, DoubleArrow}
 use Rattle.formula_reader.specs.declared.frame.Frame.{Frame}
 use Rattle.formula_reader.specs.declared.frame.Frame.TheVariants.{InAnd, InOr, InImplies, InIff, InNot, InBracket}
-use Rattle.formula_reader.specs.declared.mode.Mode.{Mode}
 use Rattle.formula_reader.specs.declared.mode.Mode.TheVariants.{Want, After, Done}
 use Rattle.formula_reader.specs.Machine.{State, at, start, is_done, Run, run}
-use Rattle.formula_reader.proofs.Complete.{AfterIff, at_close, at_semicolon, AfterImplies, at_iff, behind_iff, AfterOr, at_implies, behind_implies, AfterAnd, at_or, behind_or, AfterUnary, at_and, behind_and, WithinIff, in_nothing, in_bracket, WithinImplies, in_iff, as_iff, WithinOr, in_implies, as_implies, WithinAnd, in_or, as_or, not_done, and_done, or_done, implies_done, iff_done, and_waits, or_waits, implies_waits, iff_waits}
+use Rattle.formula_reader.proofs.Complete.{AfterIff, at_close, at_semicolon, AfterImplies, at_iff, behind_iff, AfterOr, at_implies, behind_implies, AfterAnd, at_or, behind_or, AfterUnary, at_and, behind_and, WithinIff, in_nothing, in_bracket, in_iff, as_iff, WithinOr, in_implies, as_implies, WithinAnd, in_or, as_or, not_done, and_done, or_done, implies_done, iff_done, and_waits, or_waits, implies_waits, iff_waits}
 
 -- a formula is read
 abbrev pub is_whole : Option State → Bool

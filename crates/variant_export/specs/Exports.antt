@@ -6,8 +6,8 @@ use Rattle.cfj_model.specs.Projection.{projected}
 use Rattle.cfj_model.specs.Selections.{Chosen}
 use Rattle.cfj_model.specs.Validity.{IsValid, IsFirstFalse}
 use Rattle.cide_io.specs.Known.{Known, appended, IsCut}
-use Rattle.variant_export.specs.declared.export.ExportFault.{ExportFault}
-use Rattle.variant_export.specs.declared.export.ExportFault.TheVariants.{InvalidSelection, WriteFault, NoMemory}
+use Rattle.variant_export.specs.declared.variant.ExportFault.{ExportFault}
+use Rattle.variant_export.specs.declared.variant.ExportFault.TheVariants.{InvalidSelection, WriteFault, NoMemory}
 
 -- what is printed of a product line under a selection
 abbrev pub variant_text : ProductLine → Chosen → List ℕ

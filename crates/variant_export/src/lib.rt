@@ -4,6 +4,6 @@
 //! `specs/Exports.antt` says what an export comes to.
 #![tactic(auto)]
 
-mod export;
+mod variant;
 
-pub use export::{ExportFault, export};
+pub use variant::{ExportFault, export};

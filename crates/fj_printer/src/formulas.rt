@@ -1,4 +1,4 @@
-ghost use Rattle.std.specs.Prelude.{◌≡◌, ℕ, List, ◌++◌, codes, true, length};
+ghost use Rattle.std.specs.Prelude.{◌≡◌, ℕ, List, true, length};
 ghost use Rattle.std.specs.List.{list_all};
 ghost use Rattle.cfj_model.specs.Formulas.{is_over};
 ghost use Rattle.cfj_model.specs.Print.{texts, operand_text, formula_text, constraint_text};
@@ -103,7 +103,7 @@ fn operand<K: Sink>(
     }
 }
 
-// How tightly a formula holds together, from 1 to 5.
+// How tightly a formula holds together: from 1 for `<->` to 4 for `&`, and 5 for what needs no brackets anywhere.
 fn level(formula: &Formula) -> u8
     ensures { (features : List (List ℕ)) → result ≡ (shown_formula features formula.now).level }
 {

@@ -1,8 +1,10 @@
 -- A formula that is read within the limits keeps what a project keeps of a constraint: its text with the fewest brackets nests no
 -- deeper than the text that was read.
-use Rattle.std.proofs.Common.{◌≡◌, ℕ, ◌+◌, ◌≤◌, Bool, true, false, not, if◌then◌else◌, List, [], ◌∷◌, ◌++◌, length, Option, Some, None, refl, sym, subst, arith, position}
-use Rattle.std.specs.Prelude.{nat_lt}
+use Rattle.std.proofs.Common.{◌≡◌, ℕ, ◌+◌, ◌≤◌, Bool, true, false, not, if◌then◌else◌, List, [], ◌∷◌, ◌++◌, length, Option, Some, None, map, refl, sym, subst, arith, position}
+use Rattle.std.specs.Prelude.{nat_lt, sum_by}
+use Rattle.std.specs.List.{list_all}
 use Rattle.std.proofs.lemmas.Bool.{and_from, ltb-true, ltb-false, leb-false, le-leb}
+use Rattle.std.proofs.lemmas.List.Sums.{sum_by-cons}
 use Rattle.std.proofs.lemmas.Option.{none-some}
 use Rattle.std.specs.Str.{bytes_eq}
 use Rattle.cfj_model.specs.declared.fault.FaultKind.{FaultKind}
@@ -13,6 +15,8 @@ use Rattle.cfj_model.specs.declared.formula.Formula.TheVariants as f
 use Rattle.cfj_model.specs.declared.formula.Formula.TheFolds.{fold-Formula}
 use Rattle.cfj_model.specs.Formulas.{FormulaNesting, operand_depth, formula_nesting_step, formula_nest, formula_node_count}
 use Rattle.cfj_model.specs.FormulaGrammar.{IffTree, one_implies, iff, ImpliesTree, one_or, implies, OrTree, one_and, or, AndTree, one_unary, and, UnaryTree, negated, named, true_word, false_word, bracketed, roles_iff, roles_implies, roles_or, roles_and, roles_unary, feature_at, value_iff, value_implies, value_or, value_and, value_unary}
+use Rattle.cfj_model.specs.Marks.{in_order}
+use Rattle.cfj_model.specs.TreeRoles.{roles_constraint}
 use Rattle.cfj_model.specs.ProductLines.{most_nest, most_formula_nodes, has, is_constraint}
 use Rattle.cfj_model.specs.Roles.{Role, formula_name, formula_node, formula_opens, opens, casts, plain, Tally, counted, tallied, first_of, is_long, past_formula, past_nest, past_nodes, past_size, broken_by, AreWithin}
 use Rattle.cfj_model.proofs.FormulaCases.{fold_true, fold_false, fold_feat, fold_not, fold_and, fold_or, fold_implies, fold_iff}
@@ -199,4 +203,28 @@ behind_formula features t d x rest few w =
       marks = a.marks;
       few = subst (λ (u : Tally). u.formula_nodes ≤ most_formula_nodes) a.is (few_within t (roles_iff d x []) few (front_within t (roles_iff d x []) rest all));
       within = subst (λ u. AreWithin u rest) a.is (rest_within t (roles_iff d x []) rest all);
+    }
+
+-- ---- all constraints of a project
+
+-- What is kept of constraints that were read within the limits, and of what follows them.
+pub record ConstraintsKept (features : List (List ℕ)) (t : Tally) (xs : List IffTree) (rest : List Role) : Type 0 where
+  pub marks : List (List ℕ)
+  pub each : list_all (is_constraint (length features)) (map (value_iff features) xs) ≡ true
+  pub few : t.formula_nodes + sum_by formula_node_count (map (value_iff features) xs) ≤ most_formula_nodes
+  pub within : AreWithin (with_formula t marks (sum_by formula_node_count (map (value_iff features) xs))) rest
+
+pub constraints_kept : (features : List (List ℕ)) (t : Tally) (xs : List IffTree) (rest : List Role) → t.formula_nodes ≤ most_formula_nodes → AreWithin t (in_order roles_constraint xs rest) → ConstraintsKept features t xs rest
+constraints_kept features t [] rest few w = record { marks = t.marks; each = refl; few = omega arith; within = subst (λ n. AreWithin (record t { formula_nodes = n }) rest) (omega arith) w }
+constraints_kept features t (x ∷ xs) rest few w =
+    let u : Tally = record t { marks = [] } in
+    let n : ℕ = formula_node_count (value_iff features x) in
+    let b : Behind features u x (plain ∷ in_order roles_constraint xs rest) = behind_formula features u 0 x (plain ∷ in_order roles_constraint xs rest) few w.1 in
+    let k : ConstraintsKept features (with_formula t b.marks n) xs rest = constraints_kept features (with_formula t b.marks n) xs rest b.few b.within.1 in
+    let sum : n + sum_by formula_node_count (map (value_iff features) xs) ≡ sum_by formula_node_count (map (value_iff features) (x ∷ xs)) = sym (sum_by-cons formula_node_count (value_iff features x) (map (value_iff features) xs)) in
+    record {
+      marks = k.marks;
+      each = and_from _ _ (constraint_kept features u x (plain ∷ in_order roles_constraint xs rest) w.1) k.each;
+      few = omega (arith, k.few, sum);
+      within = subst (λ m. AreWithin (record t { marks = k.marks; formula_nodes = m }) rest) (omega (arith, sum)) k.within;
     }

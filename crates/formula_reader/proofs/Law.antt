@@ -9,7 +9,7 @@ use Rattle.formula_reader.specs.declared.frame.Frame.{Frame}
 use Rattle.formula_reader.specs.declared.frame.Frame.TheVariants.{InAnd, InOr, InImplies, InIff, InNot, InBracket}
 use Rattle.formula_reader.specs.declared.mode.Mode.{Mode}
 use Rattle.formula_reader.specs.declared.mode.Mode.TheVariants.{Want, After, Done}
-use Rattle.formula_reader.specs.Machine.{State, at, start, done, reduce, in_and, in_or, in_implies, in_iff, closed, ended, step_in, step, role, takes_name_in, takes_name, is_done_in, is_done, Run, with_role, then_run, run}
+use Rattle.formula_reader.specs.Machine.{State, at, start, done, reduce, in_and, in_or, in_implies, in_iff, closed, ended, step_in, step, role, takes_name_in, takes_name, is_done_in, is_done, formula_in, formula_of, Run, with_role, then_run, run}
 use Rattle.formula_reader.specs.Reading.{IsFormula, BeginsFormula}
 use Rattle.formula_reader.proofs.Complete.{AfterIff, at_close, at_semicolon, behind_iff, behind_implies, behind_or, behind_and, AfterImplies, AfterUnary, not_done, and_done, or_done, implies_done, iff_done, formula_runs}
 use Rattle.formula_reader.proofs.Sound.{is_whole, accepted_text}
@@ -62,6 +62,24 @@ pub record Completes (features : List (List ℕ)) (s : State) : Type 0 where
   pub value : Formula
   pub others : List Role
   pub goes : run features more s ≡ (Some (done value), others)
+
+-- before the end there is no formula yet
+pub no_formula : (s : State) → is_done s ≡ false → formula_of s ≡ None
+no_formula s h = go s.mode h
+  where
+    go : (m : Mode) → is_done_in m ≡ false → formula_in m ≡ None
+    go Want h = refl
+    go (After y) h = refl
+    go (Done y) h = absurd (let no : ⊥ = cc h in no)
+
+-- and where there is one, it is read
+pub formula_ends : (s : State) (y : Formula) → formula_of s ≡ Some y → is_done s ≡ true
+formula_ends s y h = go s.mode h
+  where
+    go : (m : Mode) → formula_in m ≡ Some y → is_done_in m ≡ true
+    go Want h = absurd (let no : ⊥ = cc h in no)
+    go (After y) h = absurd (let no : ⊥ = cc h in no)
+    go (Done y) h = refl
 
 module _ (features : List (List ℕ)) where
   -- ---- a run in two parts

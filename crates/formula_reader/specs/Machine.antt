@@ -114,12 +114,12 @@ abbrev pub depth : List Frame → ℕ
 depth [] = 0
 depth (fr ∷ frames) = if nests fr then depth frames + 1 else depth frames
 
--- and behind the left side of an `->`
-abbrev pub depth_left : List Frame → ℕ
-depth_left [] = 0
-depth_left (fr ∷ frames) = if nat_le 3 (level fr) then depth_left frames else depth (fr ∷ frames)
+-- the frames that stay open where those that hold at least so tightly are closed
+abbrev pub still_open : ℕ → List Frame → List Frame
+still_open least [] = []
+still_open least (fr ∷ frames) = if nat_le least (level fr) then still_open least frames else fr ∷ frames
 
--- the role of a token at this state
+-- The role of a token at this state; what opens counts itself. An `->` stands behind its left side, which it closes.
 abbrev pub role : State → Token → Role
 role s (Id w) = formula_name w
 role s TrueWord = formula_node
@@ -128,7 +128,7 @@ role s Bang = formula_opens (depth s.frames + 1)
 role s OpenParen = opens (depth s.frames + 1)
 role s Ampersand = formula_node
 role s Bar = formula_node
-role s Arrow = formula_opens (depth_left s.frames + 1)
+role s Arrow = formula_opens (depth (still_open 3 s.frames) + 1)
 role s DoubleArrow = formula_node
 role s t = plain
 

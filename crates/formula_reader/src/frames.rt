@@ -17,7 +17,7 @@ pub fn depth_within(frames: &[Frame]) -> usize
 
 /// And behind the left side of an `->`.
 pub fn depth_behind_left(frames: &[Frame]) -> usize
-    ensures depth { result ≡ spec.depth_left (reverse frames.now) }
+    ensures depth { result ≡ spec.depth (spec.still_open 3 (reverse frames.now)) }
     ensures within { result ≤ length frames.now }
 {
     let mut open = frames;

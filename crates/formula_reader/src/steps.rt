@@ -104,6 +104,7 @@ fn after(
     }
 }
 
+/// The mode behind a bracket that closes.
 fn close(
     alloc: Global,
     frames: &mut Stack<Frame>,
@@ -118,6 +119,7 @@ fn close(
     }
 }
 
+/// The mode behind a semicolon.
 fn end(
     alloc: Global,
     frames: &mut Stack<Frame>,

@@ -1,10 +1,10 @@
 use Rattle.std.proofs.Common.{◌≡◌, ◌≤◌, length, reverse}
-use Rattle.formula_reader.specs.Machine.{depth_left}
+use Rattle.formula_reader.specs.Machine.{still_open}
 use Rattle.formula_reader.proofs.frames.depth_behind_left.Given as goal
 
 abbrev pub invariant-left : goal.invariant-left
 invariant-left l = record {
-  same : depth_left (reverse l.open) ≡ depth_left (reverse l.frames);
+  same : still_open 3 (reverse l.open) ≡ still_open 3 (reverse l.frames);
   few : length l.open ≤ length l.frames;
 }
 

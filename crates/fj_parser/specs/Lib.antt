@@ -1,8 +1,11 @@
 pub mod Accepting
 pub mod Answers
+pub mod Built
 pub mod Counting
+pub mod Laws
 pub mod Machine
 pub mod MachineViews
-pub mod Places
 pub mod Reading
+pub mod Readers
 pub mod Views
+pub mod Worst

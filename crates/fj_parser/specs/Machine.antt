@@ -1,17 +1,17 @@
 -- The machine that reads one token at a time: how it goes on, and the role that it gives each token.
-use Rattle.std.specs.Prelude.{ℕ, Bool, true, false, ◌&&◌, if◌then◌else◌, List, [], ◌∷◌, ◌++◌, length, codes, bit_or, Option, Some, None}
-use Rattle.std.specs.List.{list_all}
+use Rattle.std.specs.Prelude.{ℕ, Bool, true, false, if◌then◌else◌, List, [], ◌∷◌, ◌++◌, length, codes, bit_or, Option, Some, None}
 use Rattle.std.specs.Str.{bytes_eq}
 use Rattle.cfj_model.specs.declared.class.Field.{Field}
 use Rattle.cfj_model.specs.declared.class.Param.{Param}
 use Rattle.cfj_model.specs.declared.class.Sent.{Sent}
 use Rattle.cfj_model.specs.declared.class.Class.{Class}
-use Rattle.cfj_model.specs.declared.fault.FaultKind.{FaultKind}
-use Rattle.cfj_model.specs.declared.fault.FaultKind.TheVariants as fault
-use Rattle.cfj_model.specs.Grammar.{color_of, features_word}
-use Rattle.cfj_model.specs.Names.{is_identifier}
-use Rattle.cfj_model.specs.Tokens.{Token, Id, ClassWord, ExtendsWord, SuperWord, ThisWord, OpenBrace, CloseBrace, OpenParen, CloseParen, Semicolon, Comma, Dot, Equals, At, End, is_reserved_word}
+use Rattle.cfj_model.specs.Grammar.{features_word}
+use Rattle.cfj_model.specs.ProductLines.{ProductLine}
+use Rattle.cfj_model.specs.Marks.{color_of}
+use Rattle.cfj_model.specs.Tokens.{Token, Id, ClassWord, ExtendsWord, SuperWord, ThisWord, OpenBrace, CloseBrace, OpenParen, CloseParen, Semicolon, Comma, Dot, Equals, At, End}
 use Rattle.cfj_model.specs.Roles.{Role, feature_name, mark_name, class_name, field_name, param_name, sent_name, assigned_name, used_name, plain}
+use Rattle.fj_parser.specs.Readers.{Reader, Run, run_of}
+use Rattle.fj_parser.specs.Reading.{of_parts}
 use Rattle.fj_parser.specs.declared.mode.Node.{Node}
 use Rattle.fj_parser.specs.declared.mode.Node.TheVariants as node
 use Rattle.fj_parser.specs.declared.mode.Mode.{Mode}
@@ -95,7 +95,7 @@ with_assign s w = record s { mode = AfterAssigned; assigns = s.assigns ++ record
 
 -- the class in hand
 abbrev pub class_of : State → Class
-class_of s = record { name = s.name; colors = s.class_colors; parent = s.parent; fields = s.fields; ctor = record { params = s.params; sends = s.sends; assigns = s.assigns } }
+class_of s = record { name = s.name; colors = s.class_colors; parent = s.parent; fields = s.fields; ctor = record { params = s.params; sends = s.sends; assigns = s.assigns }; methods = [] }
 
 abbrev pub step_in : Mode → State → Token → Option State
 step_in Begin s (Id w) = if bytes_eq w features_word then to AfterFeatures s else None
@@ -160,6 +160,10 @@ step_in AfterSecondName s Semicolon = to InAssigns s
 step_in AfterCtor s CloseBrace = Some (behind s.features (s.classes ++ class_of s ∷ []))
 step_in _ s t = None
 
+-- what a state stands for
+abbrev pub stands_for : State → ProductLine
+stands_for s = of_parts s.features [] s.classes
+
 -- the next state; none where the token can't go on
 abbrev pub step : State → Token → Option State
 step s t = step_in s.mode s t
@@ -210,29 +214,16 @@ takes_name AfterThisDot = true
 takes_name AfterEquals = true
 takes_name _ = false
 
--- how a token that can't go on is named
-abbrev pub misplaced_kind : State → Token → FaultKind
-misplaced_kind s t = if is_reserved_word t && takes_name s.mode then fault.Reserved else fault.Unexpected
+-- each token's role is settled by the token itself
+abbrev pub emitted : State → Token → List Role
+emitted s t = role s t ∷ []
 
--- what is reached, and the roles on the way
-abbrev pub Run : Type 0
-Run = Option State × List Role
+abbrev pub pending : State → List Role
+pending s = []
 
-abbrev pub with_role : Role → Run → Run
-with_role r p = (p.0, r ∷ p.1)
+-- the machine as a reader
+abbrev pub reader : Reader
+reader = record { State = State; start = start; step = step; emitted = emitted; pending = pending; takes_name = λ s. takes_name s.mode }
 
-abbrev pub then_run : (State → Run) → Role → Option State → Run
-then_run f r None = (None, [])
-then_run f r (Some s) = with_role r (f s)
-
-unfoldable pub run : List Token → State → Run
-run [] s = (Some s, [])
-run (t ∷ ts) s = then_run (run ts) (role s t) (step s t)
-
--- a token that a text can have: what is called an identifier is one
-abbrev pub is_read : Token → Bool
-is_read (Id w) = is_identifier w
-is_read _ = true
-
-abbrev pub are_read : List Token → Bool
-are_read = list_all is_read
+abbrev pub run : List Token → State → Run State
+run = run_of reader

@@ -1,20 +1,23 @@
 ghost use Rattle.std.specs.Prelude.{◌≡◌, true, None, IfOk};
-ghost use Rattle.fj_parser.specs.Accepting.{IsAccepted, misplaced_in, worst_of};
-ghost use Rattle.fj_parser.specs.Machine.{misplaced_kind, is_read};
+ghost use Rattle.fj_parser.specs.Accepting.{Outcome};
+ghost use Rattle.fj_parser.specs.Machine.{reader, takes_name};
 ghost use Rattle.fj_parser.specs.MachineViews.{machine_seen, IsRoomy};
-ghost use Rattle.fj_parser.specs.Views.{symbol_seen, tally_seen};
+ghost use Rattle.fj_parser.specs.Readers.{misplaced_as};
+ghost use Rattle.fj_parser.specs.Worst.{worst_of};
+ghost use Rattle.fj_parser.specs.Views.{tally_seen};
+ghost use Rattle.fj_symbols.specs.Views.{is_read, symbol_seen};
 
 use crate::machine::Machine;
 use crate::mode::Mode;
 use crate::role::role_of;
-use crate::symbol::Symbol;
 use crate::tally::Tally;
 use cfj_model::FaultKind;
+use fj_symbols::Symbol;
 use std::alloc::{AllocError, Global};
 
 /// How a token that can't stand here is named.
 fn misplaced(mode: Mode, symbol: Symbol<'_>) -> FaultKind
-    ensures { result ≡ misplaced_in mode (symbol_seen symbol.entry) }
+    ensures { result ≡ misplaced_as (takes_name mode) (symbol_seen symbol.entry) }
 {
     if symbol.is_reserved_word() && mode.takes_name() {
         FaultKind::Reserved
@@ -48,7 +51,7 @@ pub fn accept<'a>(
 ) -> Result<Option<FaultKind>, AllocError>
     requires read { is_read (symbol_seen symbol) ≡ true }
     requires room { IsRoomy (machine_seen machine.old) }
-    ensures { IfOk result (IsAccepted
+    ensures { IfOk result (Outcome reader
         (machine_seen machine.old) (tally_seen tally.old) (symbol_seen symbol.entry) (machine_seen machine.new) (tally_seen tally.new)) }
 {
     let role = role_of(machine.mode, symbol);

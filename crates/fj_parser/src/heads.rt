@@ -1,16 +1,15 @@
 ghost use Rattle.std.specs.Prelude.{◌≡◌, ◌≤◌, true, IfOk, OnOk, bit_or, length};
-ghost use Rattle.cfj_model.specs.Grammar.{color_of};
+ghost use Rattle.cfj_model.specs.Marks.{color_of};
 ghost use Rattle.cfj_model.specs.Names.{is_name};
 ghost use Rattle.cfj_model.specs.Tokens.{Id};
 ghost use Rattle.fj_parser.specs.Machine as spec;
 ghost use Rattle.fj_parser.specs.MachineViews.{machine_seen, GoesIn};
-ghost use Rattle.fj_parser.specs.Views.{symbol_seen, is_name_token};
+ghost use Rattle.fj_symbols.specs.Views.{symbol_seen, is_name_token};
 
-use crate::features::Features;
 use crate::machine::Machine;
 use crate::mode::{Mode, Node};
-use crate::symbol::Symbol;
 use cfj_model::Colors;
+use fj_symbols::{Features, Symbol};
 use std::alloc::{AllocError, Global};
 
 /// The word that begins the feature line.

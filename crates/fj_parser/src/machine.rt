@@ -3,11 +3,10 @@ ghost use Rattle.cfj_model.specs.Names.{is_name};
 ghost use Rattle.cfj_model.specs.Tokens.{Id};
 ghost use Rattle.fj_parser.specs.Machine as spec;
 
-use crate::features::Features;
 use crate::heads::FEATURES_WORD;
 use crate::mode::{Mode, Node};
-use crate::symbol::Symbol;
 use cfj_model::{Class, Colors, Field, Name, Param, Sent};
+use fj_symbols::{Features, Symbol};
 use std::alloc::{AllocError, Global};
 
 /// What stands for a name that isn't in hand.
@@ -38,7 +37,7 @@ pub struct Machine<'a> {
 
 impl<'a> Machine<'a> {
     ghost use Rattle.fj_parser.specs.MachineViews.{machine_seen, Goes, GoesIn, IsRoomy};
-    ghost use Rattle.fj_parser.specs.Views.{symbol_seen, is_name_token};
+    ghost use Rattle.fj_symbols.specs.Views.{symbol_seen, is_name_token};
 
     /// Before the first token; no memory is taken.
     pub fn new(alloc: Global) -> Machine<'a>

@@ -2,13 +2,12 @@ ghost use Rattle.std.specs.Prelude.{◌≡◌, ◌∷◌, [], ◌++◌, true, If
 ghost use Rattle.cfj_model.specs.Tokens.{OpenParen};
 ghost use Rattle.fj_parser.specs.Machine as spec;
 ghost use Rattle.fj_parser.specs.MachineViews.{machine_seen, GoesIn};
-ghost use Rattle.fj_parser.specs.Views.{symbol_seen, is_name_token};
+ghost use Rattle.fj_symbols.specs.Views.{symbol_seen, is_name_token};
 
 use crate::machine::{Machine, NO_NAME};
 use crate::mode::{Mode, Node};
-use crate::names::name_of;
-use crate::symbol::Symbol;
 use cfj_model::{Class, Colors, Constructor, Field, Items};
+use fj_symbols::{Symbol, name_of};
 use std::alloc::{AllocError, Global};
 use std::mem;
 
@@ -161,6 +160,7 @@ impl<'a> Machine<'a> {
                 sends: Items::of(sends),
                 assigns: Items::of(assigns),
             },
+            methods: Items::of(Vec::new(alloc)),
         })?;
         self.class_colors = Colors::empty();
         self.colors = Colors::empty();

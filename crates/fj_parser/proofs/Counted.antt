@@ -1,17 +1,18 @@
 -- The lists in hand are no longer than what was counted.
-use Rattle.std.proofs.Common.{◌≡◌, ℕ, ◌<◌, Bool, true, false, List, [], ◌∷◌, ◌++◌, length, Option, Some, None, IfSome, refl, subst, arith, length-append, cond}
+use Rattle.std.proofs.Common.{◌≡◌, ℕ, ◌<◌, Bool, true, false, List, [], ◌∷◌, ◌++◌, length, Option, Some, None, IfSome, refl, sym, subst, arith, length-append, cond}
 use Rattle.std.proofs.lemmas.Bool.{false≢true, leb-false}
 use Rattle.std.specs.Prelude.{nat_le}
 use Rattle.cfj_model.specs.declared.fault.FaultKind.TheVariants.{Twice, Limit}
 use Rattle.cfj_model.specs.declared.fault.LimitKind.TheVariants as limit
 use Rattle.std.specs.Str.{bytes_eq}
 use Rattle.cfj_model.specs.Tokens.{Token, Id, ClassWord, ExtendsWord, SuperWord, ThisWord, OpenBrace, CloseBrace, OpenParen, CloseParen, Semicolon, Comma, Dot, Equals, At, End}
-use Rattle.cfj_model.specs.ProductLines.{has, most_features, most_in_ctor, most_size}
+use Rattle.cfj_model.specs.ProductLines.{has, most_features, most_in_ctor}
 use Rattle.cfj_model.specs.declared.class.Param.{Param}
 use Rattle.cfj_model.specs.declared.class.Sent.{Sent}
-use Rattle.cfj_model.specs.Roles.{feature_name, class_name, field_name, param_name, sent_name, assigned_name, Tally, nothing, counted, broken_by, is_long}
+use Rattle.cfj_model.specs.Roles.{feature_name, class_name, field_name, param_name, sent_name, assigned_name, Tally, nothing, counted, broken_by, is_long, past_size}
 use Rattle.cfj_model.specs.Grammar.{features_word}
-use Rattle.fj_parser.specs.Machine.{unnamed, State, step, step_in, role, role_in, start}
+use Rattle.fj_parser.specs.Accepting.{IsAccepted}
+use Rattle.fj_parser.specs.Machine.{unnamed, State, step, step_in, role, role_in, start, reader}
 use Rattle.fj_parser.specs.Counting.{is_bare_mode, IsCounted, Counted}
 use Rattle.fj_parser.specs.MachineViews.{IsRoomy}
 use Rattle.fj_parser.proofs.Kept.{NoneHolds, none_holds}
@@ -58,7 +59,7 @@ with_field n p q r t w h = record { empty = h.empty; features = h.features; para
 -- one more parameter
 with_param : (n q r : ℕ) (t : Tally) (ps : List Param) (x : Param) (w : List ℕ) → IsCounted false n (length ps) q r t → broken_by t (param_name w) ≡ None → IsCounted false n (length (ps ++ x ∷ [])) q r (counted t (param_name w))
 with_param n q r t ps x w h b =
-    let none : NoneHolds ((is_long w, Limit limit.Name) ∷ ((has t.params w, Twice w) ∷ ((nat_le most_in_ctor (length t.params), Limit limit.Ctor) ∷ ((nat_le most_size t.size, Limit limit.Size) ∷ [])))) = none_holds ((is_long w, Limit limit.Name) ∷ ((has t.params w, Twice w) ∷ ((nat_le most_in_ctor (length t.params), Limit limit.Ctor) ∷ ((nat_le most_size t.size, Limit limit.Size) ∷ [])))) b in
+    let none : NoneHolds ((is_long w, Limit limit.Name) ∷ ((has t.params w, Twice w) ∷ ((nat_le most_in_ctor (length t.params), Limit limit.Ctor) ∷ (past_size t ∷ [])))) = none_holds ((is_long w, Limit limit.Name) ∷ ((has t.params w, Twice w) ∷ ((nat_le most_in_ctor (length t.params), Limit limit.Ctor) ∷ (past_size t ∷ [])))) b in
     let few : length t.params < 1024 = leb-false _ _ none.1.1.0 in
     let longer = length-append t.params (w ∷ []) in
     record {
@@ -76,7 +77,7 @@ with_param n q r t ps x w h b =
 -- one more name that is sent
 with_sent : (n p r : ℕ) (t : Tally) (ss : List Sent) (x : Sent) (w : List ℕ) → IsCounted false n p (length ss) r t → broken_by t (sent_name w) ≡ None → IsCounted false n p (length (ss ++ x ∷ [])) r (counted t (sent_name w))
 with_sent n p r t ss x w h b =
-    let none : NoneHolds ((is_long w, Limit limit.Name) ∷ ((nat_le most_in_ctor t.sends, Limit limit.Ctor) ∷ ((nat_le most_size t.size, Limit limit.Size) ∷ []))) = none_holds ((is_long w, Limit limit.Name) ∷ ((nat_le most_in_ctor t.sends, Limit limit.Ctor) ∷ ((nat_le most_size t.size, Limit limit.Size) ∷ []))) b in
+    let none : NoneHolds ((is_long w, Limit limit.Name) ∷ ((nat_le most_in_ctor t.sends, Limit limit.Ctor) ∷ (past_size t ∷ []))) = none_holds ((is_long w, Limit limit.Name) ∷ ((nat_le most_in_ctor t.sends, Limit limit.Ctor) ∷ (past_size t ∷ []))) b in
     let few : t.sends < 1024 = leb-false _ _ none.1.0 in
     record {
       empty = λ e. absurd (false≢true e);
@@ -93,7 +94,7 @@ with_sent n p r t ss x w h b =
 -- one more assignment
 with_assign : (n p q : ℕ) (t : Tally) (ss : List Sent) (x : Sent) (w : List ℕ) → IsCounted false n p q (length ss) t → broken_by t (assigned_name w) ≡ None → IsCounted false n p q (length (ss ++ x ∷ [])) (counted t (assigned_name w))
 with_assign n p q t ss x w h b =
-    let none : NoneHolds ((is_long w, Limit limit.Name) ∷ ((nat_le most_in_ctor t.assigns, Limit limit.Ctor) ∷ ((nat_le most_size t.size, Limit limit.Size) ∷ []))) = none_holds ((is_long w, Limit limit.Name) ∷ ((nat_le most_in_ctor t.assigns, Limit limit.Ctor) ∷ ((nat_le most_size t.size, Limit limit.Size) ∷ []))) b in
+    let none : NoneHolds ((is_long w, Limit limit.Name) ∷ ((nat_le most_in_ctor t.assigns, Limit limit.Ctor) ∷ (past_size t ∷ []))) = none_holds ((is_long w, Limit limit.Name) ∷ ((nat_le most_in_ctor t.assigns, Limit limit.Ctor) ∷ (past_size t ∷ []))) b in
     let few : t.assigns < 1024 = leb-false _ _ none.1.0 in
     record {
       empty = λ e. absurd (false≢true e);
@@ -195,3 +196,6 @@ counted_start = record { empty = λ e. (refl, refl, refl); features = omega arit
 -- one more item of each list has a slot, and each feature has a place in a set
 pub roomy : (s : State) (t : Tally) → Counted s t → IsRoomy s
 roomy s t h = record { features = omega (arith, h.features, h.few_features); params = omega (arith, h.params, h.few_params); sends = omega (arith, h.sends, h.few_sends); assigns = omega (arith, h.assigns, h.few_assigns) }
+
+pub counts_more : (s n : State) (t u : Tally) (token : Token) → Counted s t → IsAccepted reader s t token n u → Counted n u
+counts_more s n t u token h a = subst (λ x. Counted n x) (sym a.counts) (counted_more s n t token h a.within.0 a.goes)

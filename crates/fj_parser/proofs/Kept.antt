@@ -22,13 +22,15 @@ use Rattle.cfj_model.specs.ProductLines.{most_features, most_classes, most_field
 use Rattle.cfj_model.specs.Expressions.{are_known}
 use Rattle.cfj_model.specs.declared.class.Method.{Method}
 use Rattle.cfj_model.specs.declared.formula.Formula.{Formula}
-use Rattle.cfj_model.specs.FormulaGrammar.{IffTree, value_iff}
+use Rattle.cfj_model.specs.FormulaGrammar.{IffTree, spell_iff, value_iff}
+use Rattle.formula_reader.proofs.Kept.{constraint_kept, Behind, behind_formula}
+use Rattle.formula_reader.proofs.Texts.{spell_iff_append}
 use Rattle.cfj_model.specs.Formulas.{formula_node_count}
-use Rattle.cfj_model.specs.Grammar.{Declared, Named, MethodTree, ClassTree, Tree, features_word, spell_name, spell_features, spell_field, spell_param, spell_sent, spell_assign, spell_ctor, spell_method, spell_constraint, spell_class, spell, numbered, value_field, value_param, value_sent, value_ctor, value_method, value_class, value}
+use Rattle.cfj_model.specs.Grammar.{Declared, Named, MethodTree, ClassTree, constraint_word, features_word, spell_name, spell_features, spell_field, spell_param, spell_sent, spell_assign, spell_ctor, spell_method, spell_constraint, spell_class, spell, numbered, value_field, value_param, value_sent, value_ctor, value_method, value_class, value}
 use Rattle.cfj_model.specs.Marks.{in_order, each_behind, separated, spell_marks, roles_marks, color_at, color_of, colored, colors_of}
 use Rattle.cfj_model.specs.Roles.{Role, feature_name, class_name, field_name, param_name, sent_name, assigned_name, used_name, plain, Tally, nothing, counted, first_of, is_long, past_size, broken_by, AreWithin}
 use Rattle.cfj_model.specs.TreeRoles.{roles_feature, roles_features, roles_field, roles_param, roles_sent, roles_assign, roles_ctor, roles_method, roles_constraint, roles_class, roles}
-use Rattle.fj_symbols.specs.Views.{are_read}
+use Rattle.fj_symbols.specs.Views.{is_read, are_read}
 use Rattle.fj_parser.specs.Built.{AreNone, HaveNoMethods, BuiltTree}
 
 -- no test holds
@@ -477,9 +479,31 @@ record ConstraintsKept (n : ℕ) (t : Tally) (constraints : List Formula) (rest 
   within : AreWithin (record t { marks = marks; formula_nodes = t.formula_nodes + sum_by formula_node_count constraints }) rest
   read : are_read more ≡ true
 
-constraints_kept : (features : List (List ℕ)) (t : Tally) (xs : List IffTree) → AreNone xs → (rest : List Role) (more : List Token) → t.formula_nodes ≤ most_formula_nodes → AreWithin t (in_order roles_constraint xs rest) → are_read (in_order spell_constraint xs more) ≡ true → ConstraintsKept (length features) t (map (value_iff features) xs) rest more
-constraints_kept features t [] none rest more few w r = record { marks = t.marks; few = omega arith; each = refl; within = subst (λ n. AreWithin (record t { formula_nodes = n }) rest) (omega arith) w; read = r }
-constraints_kept features t (x ∷ xs) none rest more few w r = absurd none
+-- the tokens behind others are read where all are
+read_behind : (ts us : List Token) → are_read (ts ++ us) ≡ true → are_read us ≡ true
+read_behind [] us r = r
+read_behind (t ∷ ts) us r = read_behind ts us (and_parts (is_read t) (are_read (ts ++ us)) r).1
+
+constraints_kept : (features : List (List ℕ)) (t : Tally) (xs : List IffTree) (rest : List Role) (more : List Token) → t.formula_nodes ≤ most_formula_nodes → AreWithin t (in_order roles_constraint xs rest) → are_read (in_order spell_constraint xs more) ≡ true → ConstraintsKept (length features) t (map (value_iff features) xs) rest more
+constraints_kept features t [] rest more few w r = record { marks = t.marks; few = omega arith; each = refl; within = subst (λ n. AreWithin (record t { formula_nodes = n }) rest) (omega arith) w; read = r }
+constraints_kept features t (x ∷ xs) rest more few (word, w) r =
+    let after : List Token = in_order spell_constraint xs more in
+    let others : List Role = in_order roles_constraint xs rest in
+    let u : Tally = record t { marks = [] } in
+    let b : Behind features u x (plain ∷ others) = behind_formula features u 0 x (plain ∷ others) few w in
+    let n : ℕ = formula_node_count (value_iff features x) in
+    let v : Tally = record u { marks = b.marks; formula_nodes = u.formula_nodes + n } in
+    let read : are_read (Semicolon ∷ after) ≡ true = read_behind (spell_iff x []) (Semicolon ∷ after) (subst (λ z. are_read z ≡ true) (sym (spell_iff_append x [] (Semicolon ∷ after))) (and_parts (is_identifier constraint_word) (are_read (spell_iff x (Semicolon ∷ after))) r).1) in
+    let k : ConstraintsKept (length features) v (map (value_iff features) xs) rest more = constraints_kept features v xs rest more b.few b.within.1 read in
+    let sum : sum_by formula_node_count (map (value_iff features) (x ∷ xs)) ≡ n + sum_by formula_node_count (map (value_iff features) xs) = sum_by-cons formula_node_count (value_iff features x) (map (value_iff features) xs) in
+    let same : v.formula_nodes + sum_by formula_node_count (map (value_iff features) xs) ≡ t.formula_nodes + sum_by formula_node_count (map (value_iff features) (x ∷ xs)) = omega (arith, sum) in
+    record {
+      marks = k.marks;
+      few = omega (arith, k.few, same);
+      each = and_from _ _ (constraint_kept features u x (plain ∷ others) w) k.each;
+      within = subst (λ n. AreWithin (record t { marks = k.marks; formula_nodes = n }) rest) same k.within;
+      read = k.read;
+    }
 
 -- a tree whose tokens break nothing stands for what a project's type keeps
 pub kept : (x : BuiltTree) → AreWithin nothing (roles x.tree []) → are_read (spell x.tree []) ≡ true → IsProject (value x.tree)
@@ -489,7 +513,7 @@ kept x w r =
     let classes_tokens : List Token = in_order spell_class x.tree.classes [] in
     let line : FeaturesKept nothing features (in_order roles_constraint x.tree.constraints classes_roles) (in_order spell_constraint x.tree.constraints classes_tokens) = line_kept features (in_order roles_constraint x.tree.constraints classes_roles) (in_order spell_constraint x.tree.constraints classes_tokens) w r in
     let t : Tally = record nothing { features = line.names } in
-    let some : ConstraintsKept (length features) t (map (value_iff features) x.tree.constraints) classes_roles classes_tokens = constraints_kept features t x.tree.constraints x.no_constraints classes_roles classes_tokens (omega arith) line.within line.read in
+    let some : ConstraintsKept (length features) t (map (value_iff features) x.tree.constraints) classes_roles classes_tokens = constraints_kept features t x.tree.constraints classes_roles classes_tokens (omega arith) line.within line.read in
     let u : Tally = record t { marks = some.marks; formula_nodes = t.formula_nodes + sum_by formula_node_count (map (value_iff features) x.tree.constraints) } in
     let all : ClassesKept (length features) u (map (value_class features) x.tree.classes) = classes_kept features u x.tree.classes x.no_methods (omega arith) (omega arith) some.within some.read in
     record {

@@ -1,28 +1,35 @@
 -- The laws of the machine: it reads the texts of its language and no others, and each state can be completed.
-use Rattle.std.proofs.Common.{◌≡◌, ℕ, suc, Bool, true, false, ◌&&◌, ◌||◌, if◌then◌else◌, List, [], ◌∷◌, ◌++◌, length, map, bit_or, codes, Option, Some, None, refl, sym, ◌∙◌, ap, subst, arith}
+use Rattle.std.proofs.Common.{◌≡◌, ℕ, Bool, true, false, ◌&&◌, ◌||◌, if◌then◌else◌, List, [], ◌∷◌, ◌++◌, bit_or, codes, Option, Some, None, refl, sym, ◌∙◌, ap, subst}
+use Rattle.std.proofs.lemmas.Option.{none-some}
 use Rattle.std.specs.Str.{chars, bytes_eq}
 use Rattle.cfj_model.specs.Names.{is_identifier, is_reserved}
 use Rattle.cfj_model.proofs.Identifiers.{features_is_identifier}
-use Rattle.cfj_model.specs.Tokens.{Token, Id, ClassWord, ExtendsWord, SuperWord, ThisWord, OpenBrace, CloseBrace, OpenParen, CloseParen, Semicolon, Comma, Dot, Equals, At, End}
-use Rattle.cfj_model.specs.FormulaGrammar.{IffTree, value_iff}
-use Rattle.cfj_model.specs.Grammar.{ClassTree, Tree, features_word, spell, value_class, value}
+use Rattle.fj_parser.proofs.Words.{constraint_is_identifier}
+use Rattle.cfj_model.specs.Tokens.{Token, Id, TrueWord, FalseWord, Bang, Ampersand, Bar, Arrow, DoubleArrow, ClassWord, ExtendsWord, SuperWord, ThisWord, OpenBrace, CloseBrace, OpenParen, CloseParen, Semicolon, Comma, Dot, Equals, At, End}
+use Rattle.cfj_model.specs.declared.formula.Formula.{Formula}
+use Rattle.cfj_model.specs.FormulaGrammar.{IffTree}
+use Rattle.cfj_model.specs.Grammar.{ClassTree, constraint_word, features_word, spell}
 use Rattle.cfj_model.specs.Marks.{color_of}
 use Rattle.cfj_model.specs.Roles.{Role, used_name, plain, are_settled}
-use Rattle.cfj_model.specs.TreeRoles.{roles}
 use Rattle.fj_symbols.specs.Views.{is_read, are_read}
-use Rattle.fj_parser.specs.Built.{AreNone, BuiltTree, built}
-use Rattle.fj_parser.specs.Reading.{of_parts}
+use Rattle.fj_parser.specs.Built.{BuiltTree, built}
 use Rattle.fj_parser.specs.Laws.{alike, Closes, GoesByName, Reads}
 use Rattle.fj_parser.specs.declared.mode.Node.{Node}
 use Rattle.fj_parser.specs.declared.mode.Node.TheVariants as node
 use Rattle.fj_parser.specs.declared.mode.Mode.{Mode}
-use Rattle.fj_parser.specs.declared.mode.Mode.TheVariants.{Begin, AfterFeatures, AfterFeature, AfterFeatureComma, Start, AfterAt, AfterMark, AfterMarkedType, AfterClass, AfterClassName, AfterExtends, AfterParent, InMembers, AfterType, AfterFieldName, InParams, AfterParamComma, AfterParamType, AfterParam, AfterParams, InBody, AfterSuper, InSends, AfterSendComma, AfterSend, AfterSends, InAssigns, AfterThis, AfterThisDot, AfterAssigned, AfterEquals, AfterSecondName, AfterCtor, AtEnd}
-use Rattle.fj_parser.specs.Machine.{unnamed, State, behind, start, step_in, step, role, role_in, with_field, takes_name, reader, run, stands_for}
+use Rattle.fj_parser.specs.declared.mode.Mode.TheVariants.{Begin, AfterFeatures, AfterFeature, AfterFeatureComma, Start, InConstraint, BetweenClasses, AfterAt, AfterMark, AfterMarkedType, AfterClass, AfterClassName, AfterExtends, AfterParent, InMembers, AfterType, AfterFieldName, InParams, AfterParamComma, AfterParamType, AfterParam, AfterParams, InBody, AfterSuper, InSends, AfterSendComma, AfterSend, AfterSends, InAssigns, AfterThis, AfterThisDot, AfterAssigned, AfterEquals, AfterSecondName, AfterCtor, AtEnd}
+use Rattle.formula_reader.specs.Machine as formula
+use Rattle.formula_reader.specs.declared.mode.Mode as formula_mode
+use Rattle.formula_reader.specs.declared.mode.Mode.TheVariants.{Want, After, Done}
+use Rattle.formula_reader.proofs.Law.{completes}
+use Rattle.formula_reader.proofs.Law as formula_law
+use Rattle.formula_reader.proofs.Leads.{run_leads}
+use Rattle.fj_parser.specs.Machine.{unnamed, State, start, after_formula, in_formula, opens_constraint, step_in, step, role, role_in, token_role, with_field, takes_name_in, reader, run, stands_for}
 use Rattle.fj_parser.specs.Readers.{Run, then_run, run_of}
 use Rattle.fj_parser.proofs.Complete.{text_runs, classes_run, ended}
-use Rattle.fj_parser.proofs.Complete.{same_name, mode_behind}
+use Rattle.fj_parser.proofs.Complete.{same_name, mode_behind, formula_runs}
 use Rattle.fj_parser.proofs.Readers.{on_from, run_append}
-use Rattle.fj_parser.proofs.Sound.{Tail, no_end, an_end, is_whole_in, is_whole, text_of}
+use Rattle.fj_parser.proofs.Sound.{Tail, no_end, an_end, is_whole_in, is_whole, none_undone, text_of}
 use Rattle.fj_parser.proofs.Spelled.{grammar_is_plain}
 
 -- ---- every state can be completed
@@ -75,6 +82,8 @@ closing AfterFeatures s = Id [] ∷ (Semicolon ∷ (End ∷ []))
 closing AfterFeature s = Semicolon ∷ (End ∷ [])
 closing AfterFeatureComma s = Id [] ∷ (Semicolon ∷ (End ∷ []))
 closing Start s = End ∷ []
+closing InConstraint s = []
+closing BetweenClasses s = End ∷ []
 closing (AfterAt n) s = Id [] ∷ marked_end n s.name
 closing (AfterMark n) s = marked_end n s.name
 closing AfterMarkedType s = Id [] ∷ (Semicolon ∷ ctor_end s.name)
@@ -124,22 +133,53 @@ marked_closes node.Param s = refl
 marked_closes node.Send s = refl
 marked_closes node.Assign s = refl
 
+-- the modes outside of a formula
+abbrev is_declaring : Mode → Bool
+is_declaring InConstraint = false
+is_declaring _ = true
+
 -- each state is completed by its closing
-closes : (m : Mode) (s : State) → Reaches AtEnd (run (closing m s) (record s { mode = m })).0
+closes : (m : Mode) (s : State) → is_declaring m ≡ true → Reaches AtEnd (run (closing m s) (record s { mode = m })).0
 unfolding run_of closing parent_end ctor_end params_end body_end sends_end second_end assigns_end
-closes (AfterAt n) s = marked_closes n (record s { colors = bit_or s.colors (color_of s.features []) })
-closes (AfterMark n) s = marked_closes n s
-closes AfterMarkedType s = ctor_closes (with_field (record s { last = [] }))
-closes AfterClass s = refl
-closes AfterClassName s = ctor_closes (record s { parent = [] })
-closes AfterExtends s = ctor_closes (record s { parent = [] })
-closes AfterParent s = ctor_closes s
-closes InMembers s = ctor_closes s
-closes AfterType s = ctor_closes (with_field (record s { last = [] }))
-closes AfterFieldName s = ctor_closes (with_field s)
-closes AfterAssigned s = second_closes s
-closes AfterEquals s = second_closes s
-closes _ s = refl
+closes (AfterAt n) s e = marked_closes n (record s { colors = bit_or s.colors (color_of s.features []) })
+closes (AfterMark n) s e = marked_closes n s
+closes AfterMarkedType s e = ctor_closes (with_field (record s { last = [] }))
+closes AfterClass s e = refl
+closes AfterClassName s e = ctor_closes (record s { parent = [] })
+closes AfterExtends s e = ctor_closes (record s { parent = [] })
+closes AfterParent s e = ctor_closes s
+closes InMembers s e = ctor_closes s
+closes AfterType s e = ctor_closes (with_field (record s { last = [] }))
+closes AfterFieldName s e = ctor_closes (with_field s)
+closes AfterAssigned s e = second_closes s
+closes AfterEquals s e = second_closes s
+closes InConstraint s e = absurd (let no : ⊥ = cc e in no)
+closes _ s e = refl
+
+-- tokens that lead from a state to the end
+record Ending (s : State) : Type 0 where
+  more : List Token
+  reaches : Reaches AtEnd (run more s).0
+
+-- a formula that isn't whole is completed, and then the text
+formula_closes : (s : State) → formula.is_done s.formula ≡ false → Ending (record s { mode = InConstraint })
+unfolding run_of
+formula_closes s undone =
+    let c = completes s.features s.formula undone in
+    let l = run_leads s.features c.more s.formula c.others c.value undone c.goes in
+    record { more = c.more ++ End ∷ []; reaches = subst (λ (p : Run State). Reaches AtEnd p.0) (sym (formula_runs s c.more s.formula c.others c.value l (End ∷ []))) refl }
+
+-- each state is completed, where the formula in hand isn't whole
+ending : (m : Mode) (s : State) → formula.is_done s.formula ≡ false → Ending (record s { mode = m })
+ending m s undone = go (is_declaring m) refl
+  where
+    hosted : (m : Mode) → is_declaring m ≡ false → Ending (record s { mode = m })
+    hosted InConstraint e = formula_closes s undone
+    hosted _ e = absurd (let no : ⊥ = cc e in no)
+
+    go : (b : Bool) → is_declaring m ≡ b → Ending (record s { mode = m })
+    go true e = record { more = closing m s; reaches = closes m s e }
+    go false e = hosted m e
 
 -- ---- what is read to the end is a text
 
@@ -149,10 +189,11 @@ reach_stops m None e h = absurd h
 reach_stops m (Some n) e h = ap is_whole_in h ∙ e
 
 -- behind the classes the end is still to be read
-not_at_end : {A : Type 0} (fs : List (List ℕ)) (ks : List ClassTree) → mode_behind fs ks ≡ AtEnd → A
-not_at_end [] [] e = absurd (let no : ⊥ = cc e in no)
-not_at_end [] (k ∷ ks) e = absurd (let no : ⊥ = cc e in no)
-not_at_end (f ∷ fs) ks e = absurd (let no : ⊥ = cc e in no)
+not_at_end : {A : Type 0} (fs : List (List ℕ)) (xs : List IffTree) (ks : List ClassTree) → mode_behind fs xs ks ≡ AtEnd → A
+not_at_end [] [] [] e = absurd (let no : ⊥ = cc e in no)
+not_at_end (f ∷ fs) xs [] e = absurd (let no : ⊥ = cc e in no)
+not_at_end [] (x ∷ xs) [] e = absurd (let no : ⊥ = cc e in no)
+not_at_end fs xs (k ∷ ks) e = absurd (let no : ⊥ = cc e in no)
 
 -- tokens that lead to the end
 closed_text : (ts : List Token) → Reaches AtEnd (run ts start).0 → (x : BuiltTree) × (ts ≡ spell x.tree (End ∷ []))
@@ -161,19 +202,21 @@ closed_text ts h = let t = text_of ts (reach_stops AtEnd (run ts start).0 refl h
     go : (x : BuiltTree) (rest : List Token) → Tail rest → ts ≡ spell x.tree rest → (x : BuiltTree) × (ts ≡ spell x.tree (End ∷ []))
     go x _ an_end is = (x, is)
     go x _ no_end is =
-        let e : mode_behind x.tree.features x.tree.classes ≡ AtEnd = subst (λ (p : Run State). Reaches AtEnd p.0) (ap (λ w. run w start) is ∙ classes_run x) h in
-        not_at_end x.tree.features x.tree.classes e
+        let e : mode_behind x.tree.features x.tree.constraints x.tree.classes ≡ AtEnd = subst (λ (p : Run State). Reaches AtEnd p.0) (ap (λ w. run w start) is ∙ classes_run x) h in
+        not_at_end x.tree.features x.tree.constraints x.tree.classes e
 
 -- a text that is read so far may end in this mode
 abbrev may_end : Mode → Bool
 may_end Begin = true
 may_end Start = true
+may_end BetweenClasses = true
 may_end _ = false
 
 -- and may stop there
 end_stops : (m : Mode) → may_end m ≡ true → is_whole_in m ≡ true
 end_stops Begin e = refl
 end_stops Start e = refl
+end_stops BetweenClasses e = refl
 end_stops _ e = absurd (let no : ⊥ = cc e in no)
 
 -- tokens that lead to where the end may follow
@@ -187,10 +230,24 @@ open_text ts m e h = let t = text_of ts (reach_stops m (run ts start).0 (end_sto
         let no : false ≡ true = ap may_end at_end ∙ e in
         absurd (let false_is_true : ⊥ = cc no in false_is_true)
 
+-- a formula takes no end
+formula_refuses_end : (fs : List (List ℕ)) (f : formula.State) → formula.step fs f End ≡ None
+formula_refuses_end fs f = go f.mode
+  where
+    go : (m : formula_mode.Mode) → formula.step_in fs f.frames m End ≡ None
+    go Want = refl
+    go (After y) = refl
+    go (Done y) = refl
+
+no_end_in_formula : (s n : State) → step_in InConstraint s End ≡ Some n → ⊥
+no_end_in_formula s n h = none-some n (ap (in_formula s) (sym (formula_refuses_end s.features s.formula)) ∙ h)
+
 -- only there does the machine take the end
 end_at_open : (m : Mode) (s n : State) → step_in m s End ≡ Some n → may_end m ≡ true
 end_at_open Begin s n h = refl
 end_at_open Start s n h = refl
+end_at_open BetweenClasses s n h = refl
+end_at_open InConstraint s n h = absurd (no_end_in_formula s n h)
 end_at_open (AfterMark node.Class) s n h = absurd (let no : ⊥ = cc h in no)
 end_at_open _ s n h = absurd (let no : ⊥ = cc h in no)
 
@@ -226,9 +283,22 @@ kept_if : (b : Bool) (n : State) → Kept n.mode n → KeptIn (if b then Some n 
 kept_if true n k = k
 kept_if false n k = tt
 
+kept_either : (b : Bool) (n : State) (o : Option State) → Kept n.mode n → KeptIn o → KeptIn (if b then Some n else o)
+kept_either true n o k j = k
+kept_either false n o k j = j
+
+-- behind a token of a formula nothing is assigned
+kept_formula : (s : State) → s.mode ≡ InConstraint → (o : Option formula.State) → KeptIn (in_formula s o)
+kept_formula s e None = tt
+kept_formula s e (Some f) = by (formula.formula_of f)
+  where
+    by : (q : Option Formula) → KeptIn (Some (after_formula s f q))
+    by None = subst (λ m. Kept m (record s { mode = m; formula = f })) (sym e) tt
+    by (Some x) = tt
+
 -- a step keeps it
-kept_step : (m : Mode) (s : State) (t : Token) → Kept m s → is_read t ≡ true → KeptIn (step_in m s t)
-kept_step Begin s (Id w) k r = kept_if (bytes_eq w features_word) (record s { mode = AfterFeatures }) tt
+kept_step : (m : Mode) (s : State) (t : Token) → Kept m s → is_read t ≡ true → KeptIn (step_in m (record s { mode = m }) t)
+kept_step Begin s (Id w) k r = kept_either (bytes_eq w features_word) (record s { mode = AfterFeatures }) (opens_constraint s w) tt (kept_if (bytes_eq w constraint_word) (record s { mode = InConstraint }) tt)
 kept_step Begin s At k r = tt
 kept_step Begin s ClassWord k r = tt
 kept_step Begin s End k r = tt
@@ -236,6 +306,11 @@ kept_step AfterFeatures s (Id w) k r = tt
 kept_step AfterFeature s Comma k r = tt
 kept_step AfterFeature s Semicolon k r = tt
 kept_step AfterFeatureComma s (Id w) k r = tt
+kept_step Start s (Id w) k r = kept_if (bytes_eq w constraint_word) (record s { mode = InConstraint }) tt
+kept_step InConstraint s t k r = kept_formula (record s { mode = InConstraint }) refl (formula.step s.features s.formula t)
+kept_step BetweenClasses s At k r = tt
+kept_step BetweenClasses s ClassWord k r = tt
+kept_step BetweenClasses s End k r = tt
 kept_step Start s At k r = tt
 kept_step Start s ClassWord k r = tt
 kept_step Start s End k r = tt
@@ -319,10 +394,14 @@ by_some : (m : Mode) (s n : State) → step_in m s (Id some_name) ≡ Some n →
 by_some m s n e = record { name = some_name; next = n; is = some_name_is; goes = e }
 
 -- where some identifier could stand, one can
-name_goes : (m : Mode) (s : State) → Kept m s → takes_name m ≡ true → GoesIn m s
+name_goes : (m : Mode) (s : State) → Kept m s → takes_name_in m s ≡ true → GoesIn m s
 name_goes Begin s k e =
     let n : State = record s { mode = AfterFeatures } in
-    record { name = features_word; next = n; is = features_is_identifier; goes = ap (λ b. if b then Some n else None) (same_name features_word) }
+    record { name = features_word; next = n; is = features_is_identifier; goes = ap (λ b. if b then Some n else opens_constraint s features_word) (same_name features_word) }
+name_goes Start s k e =
+    let n : State = record s { mode = InConstraint } in
+    record { name = constraint_word; next = n; is = constraint_is_identifier; goes = ap (λ b. if b then Some n else None) (same_name constraint_word) }
+name_goes InConstraint s k e = record { name = some_name; next = _; is = some_name_is; goes = ap (in_formula s) (formula_law.name_goes s.features s.formula some_name e) }
 name_goes AfterFeatures s k e = by_some AfterFeatures s _ refl
 name_goes AfterFeatureComma s k e = by_some AfterFeatureComma s _ refl
 name_goes (AfterAt n) s k e = by_some (AfterAt n) s _ refl
@@ -346,7 +425,9 @@ name_goes AfterEquals s k e =
 name_goes _ s k e = absurd (let no : ⊥ = cc e in no)
 
 -- elsewhere none can
-name_stops : (m : Mode) (s : State) (w : List ℕ) → takes_name m ≡ false → step_in m s (Id w) ≡ None
+name_stops : (m : Mode) (s : State) (w : List ℕ) → takes_name_in m s ≡ false → step_in m s (Id w) ≡ None
+name_stops InConstraint s w e = ap (in_formula s) (formula_law.name_stops s.features s.formula w e)
+name_stops Start s w e = absurd (let no : ⊥ = cc e in no)
 name_stops Begin s w e = absurd (let no : ⊥ = cc e in no)
 name_stops AfterFeatures s w e = absurd (let no : ⊥ = cc e in no)
 name_stops AfterFeatureComma s w e = absurd (let no : ⊥ = cc e in no)
@@ -368,22 +449,128 @@ name_stops AfterThisDot s w e = absurd (let no : ⊥ = cc e in no)
 name_stops AfterEquals s w e = absurd (let no : ⊥ = cc e in no)
 name_stops _ s w e = refl
 
+-- states that are equal behind `Some`
+some_same : (s n : State) → Some s ≡ Some n → s ≡ n
+some_same s n e = cc e
+
+-- ---- the formula in hand isn't whole
+
+-- and so behind a step, if there is one
+abbrev OpenIn : Option State → Type 0
+OpenIn None = Unit {0}
+OpenIn (Some n) = formula.is_done n.formula ≡ false
+
+open_if : (b : Bool) (n : State) → formula.is_done n.formula ≡ false → OpenIn (if b then Some n else None)
+open_if true n h = h
+open_if false n h = tt
+
+open_either : (b : Bool) (n : State) (o : Option State) → formula.is_done n.formula ≡ false → OpenIn o → OpenIn (if b then Some n else o)
+open_either true n o h k = h
+open_either false n o h k = k
+
+open_formula : (s : State) (o : Option formula.State) → OpenIn (in_formula s o)
+open_formula s None = tt
+open_formula s (Some f) = by (formula.formula_of f) refl
+  where
+    by : (q : Option Formula) → formula.formula_of f ≡ q → OpenIn (Some (after_formula s f q))
+    by None e = none_undone f e
+    by (Some x) e = refl
+
+-- a step keeps it so
+open_step : (m : Mode) (s : State) (t : Token) → formula.is_done s.formula ≡ false → OpenIn (step_in m s t)
+open_step Begin s (Id w) h = open_either (bytes_eq w features_word) (record s { mode = AfterFeatures }) (opens_constraint s w) h (open_if (bytes_eq w constraint_word) (record s { mode = InConstraint }) h)
+open_step Begin s At h = h
+open_step Begin s ClassWord h = h
+open_step Begin s End h = h
+open_step AfterFeatures s (Id w) h = h
+open_step AfterFeature s Comma h = h
+open_step AfterFeature s Semicolon h = h
+open_step AfterFeatureComma s (Id w) h = h
+open_step Start s (Id w) h = open_if (bytes_eq w constraint_word) (record s { mode = InConstraint }) h
+open_step InConstraint s t h = open_formula s (formula.step s.features s.formula t)
+open_step BetweenClasses s At h = h
+open_step BetweenClasses s ClassWord h = h
+open_step BetweenClasses s End h = h
+open_step Start s At h = h
+open_step Start s ClassWord h = h
+open_step Start s End h = h
+open_step (AfterAt n) s (Id w) h = h
+open_step (AfterMark node.Class) s At h = h
+open_step (AfterMark node.Class) s ClassWord h = h
+open_step (AfterMark node.Member) s At h = h
+open_step (AfterMark node.Member) s (Id w) h = h
+open_step (AfterMark node.Param) s At h = h
+open_step (AfterMark node.Param) s (Id w) h = h
+open_step (AfterMark node.Send) s At h = h
+open_step (AfterMark node.Send) s (Id w) h = h
+open_step (AfterMark node.Assign) s At h = h
+open_step (AfterMark node.Assign) s ThisWord h = h
+open_step AfterClass s (Id w) h = h
+open_step AfterClassName s ExtendsWord h = h
+open_step AfterExtends s (Id w) h = h
+open_step AfterParent s OpenBrace h = h
+open_step InMembers s At h = h
+open_step InMembers s (Id w) h = h
+open_step AfterType s (Id w) h = h
+open_step AfterType s OpenParen h = open_if (bytes_eq s.of s.name) (record s { mode = InParams; of = unnamed }) h
+open_step AfterMarkedType s (Id w) h = h
+open_step AfterFieldName s Semicolon h = h
+open_step InParams s At h = h
+open_step InParams s (Id w) h = h
+open_step InParams s CloseParen h = h
+open_step AfterParamComma s At h = h
+open_step AfterParamComma s (Id w) h = h
+open_step AfterParamType s (Id w) h = h
+open_step AfterParam s Comma h = h
+open_step AfterParam s CloseParen h = h
+open_step AfterParams s OpenBrace h = h
+open_step InBody s SuperWord h = h
+open_step AfterSuper s OpenParen h = h
+open_step InSends s At h = h
+open_step InSends s (Id w) h = h
+open_step InSends s CloseParen h = h
+open_step AfterSendComma s At h = h
+open_step AfterSendComma s (Id w) h = h
+open_step AfterSend s Comma h = h
+open_step AfterSend s CloseParen h = h
+open_step AfterSends s Semicolon h = h
+open_step InAssigns s At h = h
+open_step InAssigns s ThisWord h = h
+open_step InAssigns s CloseBrace h = h
+open_step AfterThis s Dot h = h
+open_step AfterThisDot s (Id w) h = h
+open_step AfterAssigned s Equals h = h
+open_step AfterEquals s (Id w) h = open_if (bytes_eq w s.last) (record s { mode = AfterSecondName; last = unnamed }) h
+open_step AfterSecondName s Semicolon h = h
+open_step AfterCtor s CloseBrace h = h
+open_step _ s t h = tt
+
+-- and so does a run
+open_run : (ts : List Token) (s n : State) → formula.is_done s.formula ≡ false → (run ts s).0 ≡ Some n → formula.is_done n.formula ≡ false
+unfolding run_of
+open_run [] s n h e = ap (λ (x : State). formula.is_done x.formula) (sym (some_same s n e)) ∙ h
+open_run (t ∷ ts) s n h e = go (λ x undone g. open_run ts x n undone g) (role s t ∷ []) (step s t) (open_step s.mode s t h) e
+  where
+    go : ((x : State) → formula.is_done x.formula ≡ false → (run ts x).0 ≡ Some n → formula.is_done n.formula ≡ false) → (q : List Role) (o : Option State) → OpenIn o → (then_run (run ts) q o).0 ≡ Some n → formula.is_done n.formula ≡ false
+    go ih q None undone e = absurd (none-some n e)
+    go ih q (Some x) undone e = ih x undone e
+
 -- ---- all laws together
 
 -- what is read can be completed to a text
 closes_front : (front : List Token) (s : State) (rs : List Role) → run front start ≡ (Some s, rs) → Closes built front rs []
 closes_front front s rs h =
-    let more = closing s.mode s in
-    let all : run (front ++ more) start ≡ ((run more s).0, rs ++ (run more s).1) = run_append reader front more start ∙ ap (on_from reader more) h in
-    let t = closed_text (front ++ more) (subst (λ (p : Run State). Reaches AtEnd p.0) (sym all) (closes s.mode s)) in
-    record { tree = t.0; more = more; others = (run more s).1; text = t.1; in_roles = ap (λ (p : Run State). p.1) (sym (text_runs t.0) ∙ ap (λ w. run w start) (sym t.1) ∙ all) }
+    let e = ending s.mode s (open_run front start s refl (ap (λ (p : Run State). p.0) h)) in
+    let all : run (front ++ e.more) start ≡ ((run e.more s).0, rs ++ (run e.more s).1) = run_append reader front e.more start ∙ ap (on_from reader e.more) h in
+    let t = closed_text (front ++ e.more) (subst (λ (p : Run State). Reaches AtEnd p.0) (sym all) e.reaches) in
+    record { tree = t.0; more = e.more; others = (run e.more s).1; text = t.1; in_roles = ap (λ (p : Run State). p.1) (sym (text_runs t.0) ∙ ap (λ w. run w start) (sym t.1) ∙ all) }
 
 -- where the end may follow, the tokens so far are the text of a tree
 sound : (front : List Token) (s n : State) (rs : List Role) → run front start ≡ (Some s, rs) → step s End ≡ Some n → (x : BuiltTree) × (front ≡ spell x.tree [])
 sound front s n rs h ends = open_text front s.mode (end_at_open s.mode s n ends) (subst (λ (p : Run State). Reaches s.mode p.0) (sym h) refl)
 
 -- No role of a name waits to be settled.
-name_settled : (m : Mode) (w : List ℕ) (rs : List Role) → are_settled (role_in m (Id w) ∷ rs) ≡ are_settled rs
+name_settled : (m : Mode) (w : List ℕ) (rs : List Role) → are_settled (token_role m (Id w) ∷ rs) ≡ are_settled rs
 name_settled (AfterMark node.Class) w rs = refl
 name_settled (AfterMark node.Member) w rs = refl
 name_settled (AfterMark node.Param) w rs = refl
@@ -391,9 +578,59 @@ name_settled (AfterMark node.Send) w rs = refl
 name_settled (AfterMark node.Assign) w rs = refl
 name_settled _ w rs = refl
 
-role_settled : (m : Mode) (t : Token) (rs : List Role) → are_settled (role_in m t ∷ rs) ≡ are_settled rs
-role_settled m (Id w) rs = name_settled m w rs
-role_settled m _ rs = refl
+token_settled : (m : Mode) (t : Token) (rs : List Role) → are_settled (token_role m t ∷ rs) ≡ are_settled rs
+token_settled m (Id w) rs = name_settled m w rs
+token_settled m _ rs = refl
+
+formula_settled : (f : formula.State) (t : Token) (rs : List Role) → are_settled (formula.role f t ∷ rs) ≡ are_settled rs
+formula_settled f (Id w) rs = refl
+formula_settled f TrueWord rs = refl
+formula_settled f FalseWord rs = refl
+formula_settled f Bang rs = refl
+formula_settled f OpenParen rs = refl
+formula_settled f Ampersand rs = refl
+formula_settled f Bar rs = refl
+formula_settled f Arrow rs = refl
+formula_settled f DoubleArrow rs = refl
+formula_settled f _ rs = refl
+
+role_settled : (m : Mode) (s : State) (t : Token) (rs : List Role) → are_settled (role_in m s t ∷ rs) ≡ are_settled rs
+role_settled InConstraint s t rs = formula_settled s.formula t rs
+role_settled (AfterMark n) s t rs = token_settled (AfterMark n) t rs
+role_settled (AfterAt n) s t rs = token_settled (AfterAt n) t rs
+role_settled Begin s t rs = token_settled Begin t rs
+role_settled AfterFeatures s t rs = token_settled AfterFeatures t rs
+role_settled AfterFeature s t rs = token_settled AfterFeature t rs
+role_settled AfterFeatureComma s t rs = token_settled AfterFeatureComma t rs
+role_settled Start s t rs = token_settled Start t rs
+role_settled BetweenClasses s t rs = token_settled BetweenClasses t rs
+role_settled AfterMarkedType s t rs = token_settled AfterMarkedType t rs
+role_settled AfterClass s t rs = token_settled AfterClass t rs
+role_settled AfterClassName s t rs = token_settled AfterClassName t rs
+role_settled AfterExtends s t rs = token_settled AfterExtends t rs
+role_settled AfterParent s t rs = token_settled AfterParent t rs
+role_settled InMembers s t rs = token_settled InMembers t rs
+role_settled AfterType s t rs = token_settled AfterType t rs
+role_settled AfterFieldName s t rs = token_settled AfterFieldName t rs
+role_settled InParams s t rs = token_settled InParams t rs
+role_settled AfterParamComma s t rs = token_settled AfterParamComma t rs
+role_settled AfterParamType s t rs = token_settled AfterParamType t rs
+role_settled AfterParam s t rs = token_settled AfterParam t rs
+role_settled AfterParams s t rs = token_settled AfterParams t rs
+role_settled InBody s t rs = token_settled InBody t rs
+role_settled AfterSuper s t rs = token_settled AfterSuper t rs
+role_settled InSends s t rs = token_settled InSends t rs
+role_settled AfterSendComma s t rs = token_settled AfterSendComma t rs
+role_settled AfterSend s t rs = token_settled AfterSend t rs
+role_settled AfterSends s t rs = token_settled AfterSends t rs
+role_settled InAssigns s t rs = token_settled InAssigns t rs
+role_settled AfterThis s t rs = token_settled AfterThis t rs
+role_settled AfterThisDot s t rs = token_settled AfterThisDot t rs
+role_settled AfterAssigned s t rs = token_settled AfterAssigned t rs
+role_settled AfterEquals s t rs = token_settled AfterEquals t rs
+role_settled AfterSecondName s t rs = token_settled AfterSecondName t rs
+role_settled AfterCtor s t rs = token_settled AfterCtor t rs
+role_settled AtEnd s t rs = token_settled AtEnd t rs
 
 run_settled : (ts : List Token) (s : State) → are_settled ((run ts s).1 ++ []) ≡ true
 unfolding run_of
@@ -402,21 +639,13 @@ run_settled (t ∷ ts) s = go (λ n. run_settled ts n) (step s t)
   where
     go : ((n : State) → are_settled ((run ts n).1 ++ []) ≡ true) → (o : Option State) → are_settled ((then_run (run ts) (role s t ∷ []) o).1 ++ []) ≡ true
     go ih None = refl
-    go ih (Some n) = role_settled s.mode t ((run ts n).1 ++ []) ∙ ih n
+    go ih (Some n) = role_settled s.mode s t ((run ts n).1 ++ []) ∙ ih n
 
 -- where some identifier could stand, one can
-goes_by_name : (front : List Token) (s : State) (rs : List Role) → run front start ≡ (Some s, rs) → are_read front ≡ true → takes_name s.mode ≡ true → GoesByName reader s
+goes_by_name : (front : List Token) (s : State) (rs : List Role) → run front start ≡ (Some s, rs) → are_read front ≡ true → takes_name_in s.mode s ≡ true → GoesByName reader s
 goes_by_name front s rs h read name =
     let n = name_goes s.mode s (kept_run front start s tt read (ap (λ (p : Run State). p.0) h)) name in
     record { name = n.name; next = n.next; is = n.is; goes = n.goes }
-
--- what is read stands for what its tree does
-valued_parts : (x : BuiltTree) → stands_for (ended x) ≡ value x.tree
-valued_parts x = go x.tree.features x.tree.constraints x.tree.classes x.no_constraints
-  where
-    go : (fs : List (List ℕ)) (xs : List IffTree) (ks : List ClassTree) → AreNone xs → of_parts fs [] (map (value_class fs) ks) ≡ of_parts fs (map (value_iff fs) xs) (map (value_class fs) ks)
-    go fs [] ks none = refl
-    go fs (x ∷ xs) ks none = absurd none
 
 -- the machine reads the texts of projects
 pub laws : Reads built reader
@@ -425,7 +654,7 @@ laws =
       grammar = grammar_is_plain;
       ended = ended;
       stands_for = stands_for;
-      valued = valued_parts;
+      valued = λ x. refl;
       complete = text_runs;
       sound = sound;
       closes = closes_front;

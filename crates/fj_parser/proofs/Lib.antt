@@ -14,3 +14,4 @@ pub mod Spelled
 pub mod Texts
 pub mod TextsKept
 pub mod TokenReads
+pub mod Words

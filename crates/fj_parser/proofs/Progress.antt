@@ -1,7 +1,5 @@
 -- Reading goes on by one token, or ends: with what the text stands for, or with its first fault.
-use Rattle.std.proofs.Common.{◌≡◌, ℕ, suc, ◌+◌, ◌≤◌, List, [], ◌∷◌, ◌++◌, length, take, Option, Some, None, refl, sym, ap, subst, ◌∙◌, arith, append_assoc, length-append}
-use Rattle.std.proofs.Math.Nat.{sub-zero}
-use Rattle.std.proofs.lemmas.Bool.{false≢true}
+use Rattle.std.proofs.Common.{◌≡◌, ℕ, suc, ◌+◌, List, [], ◌∷◌, ◌++◌, length, take, Some, refl, sym, ap, subst, ◌∙◌, arith, append_assoc, length-append}
 use Rattle.std.proofs.lemmas.List.{take-append-le, take_all}
 use Rattle.std.proofs.lemmas.Option.{none-some, some_pair_parts}
 use Rattle.std.specs.Str.{chars, IsUtf8}
@@ -12,7 +10,7 @@ use Rattle.cfj_model.specs.Roles.{Role, plain, Tally, counted, tallied, broken_b
 use Rattle.cfj_model.specs.Tokens.{Token, End, Takes, token_of, token_seen, place_of}
 use Rattle.fj_parser.specs.Accepting.{BreaksAt, IsAccepted, IsRefused, settled, waiting, misplaced}
 use Rattle.fj_parser.specs.Laws.{Reads}
-use Rattle.fj_parser.specs.Readers.{Reader, run_of, misplaced_kind}
+use Rattle.fj_parser.specs.Readers.{Reader, run_of}
 use Rattle.fj_parser.specs.Reading.{IsReading}
 use Rattle.fj_parser.proofs.FirstFault.{front_of, LongestFrom, longest_from, standing_one}
 use Rattle.fj_parser.proofs.Readers.{run_more, front_long, cannot_go_on, can_go_on, begun, misplaced_is, WholeText, text_read}

@@ -1,9 +1,8 @@
 -- Runs of a reader, and what they say of its language: what is read begins a text, in its roles, and where the reader is stuck no
 -- text goes on.
 use Rattle.std.proofs.Common.{◌≡◌, ℕ, suc, ◌+◌, ◌<◌, ◌≤◌, Bool, true, false, ◌&&◌, if◌then◌else◌, List, [], ◌∷◌, ◌++◌, length, Option, Some, None, refl, sym, ◌∙◌, ap, subst, arith, append_assoc, length-append, nat_le}
-use Rattle.std.proofs.lemmas.Bool.{true≢false, leb-true, and_parts}
+use Rattle.std.proofs.lemmas.Bool.{leb-true, and_parts}
 use Rattle.std.proofs.lemmas.Option.{none-some, same_Some}
-use Rattle.cfj_model.specs.Names.{is_identifier}
 use Rattle.cfj_model.specs.Tokens.{Token, Id, End, is_reserved_word}
 use Rattle.cfj_model.specs.Roles.{Role, casts, plain, is_settled, are_settled}
 use Rattle.cfj_model.specs.declared.fault.FaultKind.TheVariants as fault

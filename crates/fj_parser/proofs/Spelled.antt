@@ -1,12 +1,12 @@
 -- What follows a tree's tokens, or its roles, stands behind them.
-use Rattle.std.proofs.Common.{◌≡◌, true, List, [], ◌∷◌, ◌++◌, ℕ, refl, ap, ◌∙◌}
+use Rattle.std.proofs.Common.{◌≡◌, true, List, [], ◌∷◌, ◌++◌, ℕ, ◌+◌, refl, sym, ap, ◌∙◌}
 use Rattle.cfj_model.specs.Tokens.{Token, Id, ClassWord, ExtendsWord, SuperWord, ThisWord, OpenBrace, CloseBrace, OpenParen, CloseParen, Semicolon, Comma, Dot, Equals}
-use Rattle.cfj_model.specs.Grammar.{Declared, Named, MethodTree, ClassTree, Tree, features_word, spell_name, spell_features, spell_field, spell_param, spell_sent, spell_assign, spell_ctor, spell_method, spell_constraint, spell_class, spell}
-use Rattle.cfj_model.specs.FormulaGrammar.{IffTree}
+use Rattle.cfj_model.specs.Grammar.{Declared, Named, MethodTree, ClassTree, constraint_word, features_word, spell_name, spell_features, spell_field, spell_param, spell_sent, spell_assign, spell_ctor, spell_method, spell_constraint, spell_class, spell}
+use Rattle.cfj_model.specs.FormulaGrammar.{IffTree, one_implies, iff, ImpliesTree, one_or, implies, OrTree, one_and, or, AndTree, one_unary, and, UnaryTree, negated, named, true_word, false_word, bracketed, roles_iff, roles_implies, roles_or, roles_and, roles_unary}
+use Rattle.formula_reader.proofs.Texts.{spell_iff_append, roles_iff_append}
 use Rattle.cfj_model.specs.Marks.{in_order, each_behind, separated, spell_mark, spell_marks, roles_mark, roles_marks}
-use Rattle.cfj_model.specs.Roles.{Role, feature_name, class_name, field_name, param_name, sent_name, assigned_name, used_name, plain, are_settled}
+use Rattle.cfj_model.specs.Roles.{Role, feature_name, class_name, field_name, param_name, sent_name, assigned_name, used_name, formula_node, formula_opens, plain, are_settled}
 use Rattle.cfj_model.specs.TreeRoles.{roles_feature, roles_features, roles_field, roles_param, roles_sent, roles_assign, roles_ctor, roles_method, roles_constraint, roles_class, roles}
-use Rattle.cfj_model.specs.Faults.{Language}
 use Rattle.fj_parser.specs.Built.{AreNone, HaveNoMethods, BuiltTree, built}
 use Rattle.fj_parser.specs.Laws.{IsPlainLanguage}
 
@@ -94,16 +94,15 @@ classes_before : (ks : List ClassTree) → HaveNoMethods ks → (a b : List Toke
 classes_before [] none a b = refl
 classes_before (k ∷ ks) none a b = ap (spell_class k) (classes_before ks none.1 a b) ∙ class_before k none.0 (in_order spell_class ks a) b
 
-constraints_before : (xs : List IffTree) → AreNone xs → (a b : List Token) → in_order spell_constraint xs (a ++ b) ≡ in_order spell_constraint xs a ++ b
-constraints_before [] none a b = refl
-constraints_before (x ∷ xs) none a b = absurd none
+constraint_before : (x : IffTree) (a b : List Token) → spell_constraint x (a ++ b) ≡ spell_constraint x a ++ b
+constraint_before x a b = ap (λ ts. Id constraint_word ∷ ts) (sym (spell_iff_append x (Semicolon ∷ a) b))
 
 -- What follows a tree's tokens stands behind them.
 spell_before : (x : BuiltTree) (a b : List Token) → spell x.tree (a ++ b) ≡ spell x.tree a ++ b
 spell_before x a b =
     let constraints : List Token → List Token = in_order spell_constraint x.tree.constraints in
     ap (λ ts. spell_features x.tree.features (constraints ts)) (classes_before x.tree.classes x.no_methods a b)
-    ∙ ap (spell_features x.tree.features) (constraints_before x.tree.constraints x.no_constraints (in_order spell_class x.tree.classes a) b)
+    ∙ ap (spell_features x.tree.features) (in_order_before spell_constraint constraint_before x.tree.constraints (in_order spell_class x.tree.classes a) b)
     ∙ features_before x.tree.features (constraints (in_order spell_class x.tree.classes a)) b
 
 -- ---- roles
@@ -165,16 +164,15 @@ classes_roles_before : (ks : List ClassTree) → HaveNoMethods ks → (a b : Lis
 classes_roles_before [] none a b = refl
 classes_roles_before (k ∷ ks) none a b = ap (roles_class k) (classes_roles_before ks none.1 a b) ∙ class_roles_before k none.0 (in_order roles_class ks a) b
 
-constraint_roles_before : (xs : List IffTree) → AreNone xs → (a b : List Role) → in_order roles_constraint xs (a ++ b) ≡ in_order roles_constraint xs a ++ b
-constraint_roles_before [] none a b = refl
-constraint_roles_before (x ∷ xs) none a b = absurd none
+constraint_roles_before : (x : IffTree) (a b : List Role) → roles_constraint x (a ++ b) ≡ roles_constraint x a ++ b
+constraint_roles_before x a b = ap (λ rs. used_name constraint_word ∷ rs) (sym (roles_iff_append 0 x (plain ∷ a) b))
 
 -- What follows a tree's roles stands behind them.
 roles_before : (x : BuiltTree) (a b : List Role) → roles x.tree (a ++ b) ≡ roles x.tree a ++ b
 roles_before x a b =
     let constraints : List Role → List Role = in_order roles_constraint x.tree.constraints in
     ap (λ rs. roles_features x.tree.features (constraints rs)) (classes_roles_before x.tree.classes x.no_methods a b)
-    ∙ ap (roles_features x.tree.features) (constraint_roles_before x.tree.constraints x.no_constraints (in_order roles_class x.tree.classes a) b)
+    ∙ ap (roles_features x.tree.features) (in_order_before roles_constraint constraint_roles_before x.tree.constraints (in_order roles_class x.tree.classes a) b)
     ∙ feature_roles_before x.tree.features (constraints (in_order roles_class x.tree.classes a)) b
 
 -- ---- settled roles
@@ -235,15 +233,39 @@ classes_settled : (ks : List ClassTree) → HaveNoMethods ks → (rest : List Ro
 classes_settled [] none rest = refl
 classes_settled (k ∷ ks) none rest = class_settled k none.0 (in_order roles_class ks rest) ∙ classes_settled ks none.1 rest
 
-constraints_settled : (xs : List IffTree) → AreNone xs → (rest : List Role) → are_settled (in_order roles_constraint xs rest) ≡ are_settled rest
-constraints_settled [] none rest = refl
-constraints_settled (x ∷ xs) none rest = absurd none
+-- A formula has no cast.
+mutual
+  iff_settled : (d : ℕ) (x : IffTree) (rest : List Role) → are_settled (roles_iff d x rest) ≡ are_settled rest
+  iff_settled d (one_implies x) rest = implies_settled d x rest
+  iff_settled d (iff x y) rest = iff_settled d x (formula_node ∷ roles_implies d y rest) ∙ implies_settled d y rest
+
+  implies_settled : (d : ℕ) (x : ImpliesTree) (rest : List Role) → are_settled (roles_implies d x rest) ≡ are_settled rest
+  implies_settled d (one_or x) rest = or_settled d x rest
+  implies_settled d (implies x y) rest = or_settled d x (formula_opens (d + 1) ∷ roles_implies (d + 1) y rest) ∙ implies_settled (d + 1) y rest
+
+  or_settled : (d : ℕ) (x : OrTree) (rest : List Role) → are_settled (roles_or d x rest) ≡ are_settled rest
+  or_settled d (one_and x) rest = and_settled d x rest
+  or_settled d (or x y) rest = or_settled d x (formula_node ∷ roles_and d y rest) ∙ and_settled d y rest
+
+  and_settled : (d : ℕ) (x : AndTree) (rest : List Role) → are_settled (roles_and d x rest) ≡ are_settled rest
+  and_settled d (one_unary x) rest = unary_settled d x rest
+  and_settled d (and x y) rest = and_settled d x (formula_node ∷ roles_unary d y rest) ∙ unary_settled d y rest
+
+  unary_settled : (d : ℕ) (x : UnaryTree) (rest : List Role) → are_settled (roles_unary d x rest) ≡ are_settled rest
+  unary_settled d (negated x) rest = unary_settled (d + 1) x rest
+  unary_settled d (named w) rest = refl
+  unary_settled d true_word rest = refl
+  unary_settled d false_word rest = refl
+  unary_settled d (bracketed x) rest = iff_settled (d + 1) x (plain ∷ rest)
+
+constraint_settled : (x : IffTree) (rest : List Role) → are_settled (roles_constraint x rest) ≡ are_settled rest
+constraint_settled x rest = iff_settled 0 x (plain ∷ rest)
 
 -- A tree's roles are settled.
 roles_settled : (x : BuiltTree) → are_settled (roles x.tree []) ≡ true
 roles_settled x =
     features_settled x.tree.features (in_order roles_constraint x.tree.constraints (in_order roles_class x.tree.classes []))
-    ∙ constraints_settled x.tree.constraints x.no_constraints (in_order roles_class x.tree.classes [])
+    ∙ in_order_settled roles_constraint constraint_settled x.tree.constraints (in_order roles_class x.tree.classes [])
     ∙ classes_settled x.tree.classes x.no_methods []
 
 pub grammar_is_plain : IsPlainLanguage built

@@ -1,5 +1,5 @@
 -- A text stands for what a project's type keeps.
-use Rattle.std.proofs.Common.{◌≡◌, ℕ, List, [], sym, subst}
+use Rattle.std.proofs.Common.{ℕ, List, [], sym, subst}
 use Rattle.std.specs.Str.{chars}
 use Rattle.cfj_model.specs.Faults.{IsTextOf}
 use Rattle.cfj_model.specs.Grammar.{spell}

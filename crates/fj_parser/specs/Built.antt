@@ -1,4 +1,4 @@
--- The projects that are read: those without constraints and without methods.
+-- The projects that are read: those without methods.
 use Rattle.std.specs.Prelude.{List, [], ◌∷◌}
 use Rattle.cfj_model.specs.Faults.{Language}
 use Rattle.cfj_model.specs.Grammar.{ClassTree, Tree, spell, value}
@@ -18,9 +18,8 @@ HaveNoMethods (k ∷ ks) = AreNone k.methods × HaveNoMethods ks
 
 pub record BuiltTree : Type 0 where
   pub tree : Tree
-  pub no_constraints : AreNone tree.constraints
   pub no_methods : HaveNoMethods tree.classes
 
--- projects of classes with fields and constructors
+-- projects whose classes have fields and constructors
 abbrev pub built : Language ProductLine
 built = record { Tree = BuiltTree; spell = λ x. spell x.tree; roles = λ x. roles x.tree; value = λ x. value x.tree; met = nothing }

@@ -8,4 +8,3 @@ pub mod MachineViews
 pub mod Reading
 pub mod Readers
 pub mod Views
-pub mod Worst

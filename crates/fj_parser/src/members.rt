@@ -142,7 +142,7 @@ impl<'a> Machine<'a> {
     }
 
     fn push_class(&mut self, alloc: Global) -> Result<(), AllocError>
-        ensures { OnOk result (machine_seen self.new ≡ spec.behind (machine_seen self.old).features ((machine_seen self.old).classes ++ spec.class_of (machine_seen self.old) ∷ [])) }
+        ensures { OnOk result (machine_seen self.new ≡ spec.with_class (machine_seen self.old)) }
     {
         let name = name_of(alloc, self.name)?;
         let parent = name_of(alloc, self.parent)?;
@@ -168,7 +168,7 @@ impl<'a> Machine<'a> {
         self.parent = NO_NAME;
         self.of = NO_NAME;
         self.last = NO_NAME;
-        self.mode = Mode::Start;
+        self.mode = Mode::BetweenClasses;
         Ok(())
     }
 }

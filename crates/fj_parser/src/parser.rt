@@ -15,7 +15,7 @@ ghost use Rattle.fj_symbols.specs.Views.{is_read, symbol_seen};
 use crate::accept::accept;
 use crate::machine::Machine;
 use crate::tally::Tally;
-use cfj_model::{Class, FaultKind, FeatureModel, Items, Name, ParseFault, Project};
+use cfj_model::{Class, FaultKind, FeatureModel, ParseFault, Project};
 use fj_lexer::{LexFault, Lexer};
 use fj_symbols::{Symbol, symbol_of};
 use std::alloc::Global;
@@ -81,9 +81,9 @@ fn read_tokens<'a>(
     take(alloc, machine, tally, Symbol::End, lexer.text.len())
 }
 
-/// The features and classes of a text.
-fn read_parts(alloc: Global, text: &str) -> Result<(Vec<Name>, Vec<Class>), ParseFault>
-    ensures read { IfOk result (λ parts. IsTextOf built text.now (of_parts parts.0.items [] parts.1.items)) }
+/// The feature model and the classes of a text.
+fn read_parts(alloc: Global, text: &str) -> Result<(FeatureModel, Vec<Class>), ParseFault>
+    ensures read { IfOk result (λ parts. IsTextOf built text.now (of_parts parts.0.features parts.0.constraints parts.1.items)) }
     ensures fault { (at : ℕ) (kind : _) → result ≡ Err (ParseFault.At at kind) → IsFirstFault built text.now at kind }
 {
     let mut lexer = Lexer::new(text);
@@ -106,16 +106,8 @@ fn read_project(alloc: Global, text: &[u8]) -> Result<Project, ParseFault>
             });
         }
     };
-    let (names, classes) = read_parts(alloc, text)?;
-    let features = Items::of(names);
-    let constraints = Items::of(Vec::new(alloc));
-    let model = Arc::new(
-        alloc,
-        FeatureModel {
-            features,
-            constraints,
-        },
-    )?;
+    let (model, classes) = read_parts(alloc, text)?;
+    let model = Arc::new(alloc, model)?;
     Ok(Project::of(model, classes)?)
 }
 

@@ -1,5 +1,5 @@
 ghost use Rattle.std.specs.Prelude.{◌≡◌};
-ghost use Rattle.fj_parser.specs.Machine.{name_role, role_in};
+ghost use Rattle.fj_parser.specs.Machine.{name_role, token_role};
 ghost use Rattle.fj_symbols.specs.Views.{role_seen, symbol_seen};
 
 use crate::mode::{Mode, Node};
@@ -21,9 +21,9 @@ fn name_role<'a>(mode: Mode, name: &'a str) -> Role<'a>
     }
 }
 
-/// What a token is behind what was read last.
+/// What a token is behind what was read last, outside of a formula.
 pub fn role_of<'a>(mode: Mode, symbol: Symbol<'a>) -> Role<'a>
-    ensures { role_seen result ≡ role_in mode (symbol_seen symbol.entry) }
+    ensures { role_seen result ≡ token_role mode (symbol_seen symbol.entry) }
 {
     match symbol {
         Symbol::Id(name) => name_role(mode, name),

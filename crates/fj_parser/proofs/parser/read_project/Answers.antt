@@ -1,19 +1,14 @@
-use Rattle.std.proofs.Common.{◌≡◌, ℕ, List, [], sym, subst, ◌∙◌, ap}
+use Rattle.std.proofs.Common.{◌≡◌, ℕ, sym, subst}
 use Rattle.cfj_model.specs.declared.fault.FaultKind.{FaultKind}
 use Rattle.cfj_model.specs.declared.fault.FaultKind.TheVariants.{NotUtf8}
 use Rattle.cfj_model.specs.declared.fault.ParseFault.TheVariants.{At}
 use Rattle.std.specs.Str.{IsValidUpTo}
-use Rattle.cfj_model.specs.declared.formula.Formula.{Formula}
-use Rattle.cfj_model.specs.declared.feature_model.FeatureModel.{FeatureModel}
 use Rattle.fj_parser.specs.Reading.{of_parts}
 use Rattle.cfj_model.specs.Faults.{IsFirstFault, no_text}
 use Rattle.cfj_model.specs.ProductLines.{IsProject}
 use Rattle.fj_parser.specs.Built.{built}
 use Rattle.fj_parser.proofs.TextsKept.{text_kept}
 use Rattle.fj_parser.proofs.parser.read_project.Goals as goal
-
-abbrev of_features : List (List ℕ) → List Formula → FeatureModel
-of_features names constraints = record { features = names; constraints = constraints }
 
 same_place : (a b : ℕ) (k l : FaultKind) → At a k ≡ At b l → a ≡ b
 same_place a b k l e = cc e
@@ -30,7 +25,6 @@ returns-in-Err-clause-fault c = λ at kind e.
 
 pub of-requires : goal.of-requires
 of-requires c =
-    let features = c.in_ok-names.names.items in
-    let classes = c.in_ok-names.classes.items in
-    let is : c.in_ok-model.model.value ≡ of_features features [] = c.in_ok-model.ensures.ok ∙ ap (λ (x : List (List ℕ)). of_features x c.of-constraints.result) c.of-features.ensures ∙ ap (of_features features) (c.of-constraints.ensures ∙ c.new.ensures.items) in
-    subst (λ m. IsProject (record { model = m; classes = classes })) (sym is) (text_kept c.in-Ok.text.now (of_parts features [] classes) c.in_ok-names.ensures.read)
+    let model = c.in_ok-model.model in
+    let classes = c.in_ok-model.classes.items in
+    subst (λ m. IsProject (record { model = m; classes = classes })) (sym c.in_ok-model-2.ensures.ok) (text_kept c.in-Ok.text.now (of_parts model.features model.constraints classes) c.in_ok-model.ensures.read)

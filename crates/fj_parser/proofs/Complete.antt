@@ -1,21 +1,35 @@
 -- The text of each tree is read: in the tree's roles, and to the tree's value.
-use Rattle.std.proofs.Common.{◌≡◌, ℕ, ◌+◌, true, if◌then◌else◌, List, [], ◌∷◌, ◌++◌, length, map, bit_or, Some, None, refl, sym, ◌∙◌, ap, append_assoc, length-append}
+use Rattle.std.proofs.Common.{◌≡◌, ℕ, ◌+◌, true, false, if◌then◌else◌, List, [], ◌∷◌, ◌++◌, length, map, bit_or, Some, None, refl, sym, ◌∙◌, ap, append_assoc, length-append}
 use Rattle.std.proofs.lemmas.List.{append-nil}
 use Rattle.std.proofs.lemmas.Slice.Eq.{bytes_eq-Decides}
 use Rattle.std.specs.Str.{bytes_eq}
 use Rattle.cfj_model.specs.declared.class.Class.{Class}
 use Rattle.cfj_model.specs.Tokens.{Token, Id, ClassWord, ExtendsWord, SuperWord, ThisWord, OpenBrace, CloseBrace, OpenParen, CloseParen, Semicolon, Comma, Dot, Equals, At, End}
-use Rattle.cfj_model.specs.Grammar.{Declared, Named, ClassTree, Tree, in_order, each_behind, separated, features_word, spell_name, spell_features, spell_marks, spell_field, spell_param, spell_sent, spell_assign, spell_ctor, spell_class, spell, numbered, color_of, colored, colors_of, value_field, value_param, value_sent, value_class}
-use Rattle.cfj_model.specs.Roles.{Role, mark_name, class_name, assigned_name, used_name, plain, roles_feature, roles_features, roles_mark, roles_marks, roles_field, roles_param, roles_sent, roles_assign, roles_ctor, roles_class, roles}
+use Rattle.cfj_model.specs.declared.formula.Formula.{Formula}
+use Rattle.cfj_model.specs.FormulaGrammar.{IffTree, spell_iff, roles_iff, value_iff}
+use Rattle.cfj_model.specs.Grammar.{Declared, Named, MethodTree, ClassTree, constraint_word, features_word, spell_name, spell_features, spell_field, spell_param, spell_sent, spell_assign, spell_ctor, spell_method, spell_constraint, spell_class, spell, numbered, value_field, value_param, value_sent, value_method, value_class}
+use Rattle.cfj_model.specs.Marks.{in_order, each_behind, separated, spell_marks, roles_mark, roles_marks, color_of, colored, colors_of}
+use Rattle.cfj_model.specs.Roles.{Role, mark_name, class_name, assigned_name, used_name, plain}
+use Rattle.cfj_model.specs.TreeRoles.{roles_feature, roles_features, roles_field, roles_param, roles_sent, roles_assign, roles_ctor, roles_method, roles_constraint, roles_class, roles}
+use Rattle.formula_reader.specs.Machine as formula
+use Rattle.formula_reader.specs.declared.mode.Mode as formula_mode
+use Rattle.formula_reader.specs.declared.mode.Mode.TheVariants.{Want, After, Done}
+use Rattle.formula_reader.proofs.Leads.{Leads, last, more, formula_leads}
+use Rattle.formula_reader.proofs.Texts.{spell_iff_append, roles_iff_append}
+use Rattle.fj_parser.specs.Built.{AreNone, HaveNoMethods, BuiltTree}
 use Rattle.fj_parser.specs.declared.mode.Node.{Node}
 use Rattle.fj_parser.specs.declared.mode.Node.TheVariants as node
 use Rattle.fj_parser.specs.declared.mode.Mode.{Mode}
-use Rattle.fj_parser.specs.declared.mode.Mode.TheVariants.{Begin, AfterFeatures, AfterFeature, Start, AfterAt, AfterMark, AfterClass, InMembers, InParams, AfterParamComma, AfterParam, AfterParams, InSends, AfterSendComma, AfterSend, AfterSends, InAssigns, AfterThis, AfterSecondName, AfterCtor, AtEnd}
-use Rattle.fj_parser.specs.Machine.{unnamed, State, behind, start, to, step_in, Run, with_role, then_run, run}
+use Rattle.fj_parser.specs.declared.mode.Mode.TheVariants.{Begin, AfterFeatures, AfterFeature, Start, InConstraint, BetweenClasses, AfterAt, AfterMark, AfterClass, InMembers, InParams, AfterParamComma, AfterParam, AfterParams, InSends, AfterSendComma, AfterSend, AfterSends, InAssigns, AfterThis, AfterSecondName, AfterCtor, AtEnd}
+use Rattle.fj_parser.specs.Machine.{unnamed, State, behind, before_classes, start, class_of, to, after_formula, in_formula, opens_constraint, step_in, run}
+use Rattle.fj_parser.specs.Readers.{Run, then_run, run_of}
 
 -- a run with more roles before its own
-abbrev pub with_roles : (List Role → List Role) → Run → Run
+abbrev pub with_roles : (List Role → List Role) → Run State → Run State
 with_roles f p = (p.0, f p.1)
+
+abbrev pub with_role : Role → Run State → Run State
+with_role r p = (p.0, r ∷ p.1)
 
 -- where the same name stands twice, the test says so
 pub same_name : (w : List ℕ) → bytes_eq w w ≡ true
@@ -38,15 +52,15 @@ at_again node.Assign s = refl
 
 -- the marks after the first
 marks_run : (n : Node) (ms : List (List ℕ)) (ts : List Token) (s : State) → run (spell_marks ms ts) (record s { mode = AfterMark n }) ≡ with_roles (roles_marks ms) (run ts (record s { mode = AfterMark n; colors = colored s.features s.colors ms }))
-unfolding run
+unfolding run_of
 marks_run n [] ts s = refl
 marks_run n (m ∷ ms) ts s =
-    ap (then_run (run (Id m ∷ spell_marks ms ts)) plain) (at_again n (record s { mode = AfterMark n }))
+    ap (then_run (run (Id m ∷ spell_marks ms ts)) (plain ∷ [])) (at_again n (record s { mode = AfterMark n }))
     ∙ ap (with_roles (roles_mark m)) (marks_run n ms ts (record s { colors = bit_or s.colors (color_of s.features m) }))
 
 -- the marks of a node that has some, behind the sign of the first
 first_mark_run : (n : Node) (m : List ℕ) (ms : List (List ℕ)) (ts : List Token) (s : State) → run (Id m ∷ spell_marks ms ts) (record s { mode = AfterAt n; colors = 0 }) ≡ with_roles (λ rs. mark_name m ∷ roles_marks ms rs) (run ts (record s { mode = AfterMark n; colors = colors_of s.features (m ∷ ms) }))
-unfolding run
+unfolding run_of
 first_mark_run n m ms ts s = ap (with_role (mark_name m)) (marks_run n ms ts (record s { colors = bit_or 0 (color_of s.features m) }))
 
 -- ---- a class's parts
@@ -97,7 +111,7 @@ with_an_assign s d = record s { assigns = s.assigns ++ value_sent s.features (le
 
 -- a field with these marks
 field_run : (ms : List (List ℕ)) (of name : List ℕ) (ts : List Token) (s : State) → run (spell_field (record { marks = ms; of = of; name = name }) ts) (in_members s) ≡ with_roles (roles_field (record { marks = ms; of = of; name = name })) (run ts (in_members (with_a_field s (record { marks = ms; of = of; name = name }))))
-unfolding run
+unfolding run_of
 field_run [] of name ts s = refl
 field_run (m ∷ ms) of name ts s = ap (with_role plain) (first_mark_run node.Member m ms (Id of ∷ (Id name ∷ (Semicolon ∷ ts))) (in_members s))
 
@@ -111,19 +125,19 @@ fields_run (d ∷ ds) ts s =
 
 -- a parameter with these marks behind a comma
 param_run : (ms : List (List ℕ)) (of name : List ℕ) (ts : List Token) (s : State) → run (spell_param (record { marks = ms; of = of; name = name }) ts) (after_param_comma s) ≡ with_roles (roles_param (record { marks = ms; of = of; name = name })) (run ts (after_param (with_a_param s (record { marks = ms; of = of; name = name }))))
-unfolding run
+unfolding run_of
 param_run [] of name ts s = refl
 param_run (m ∷ ms) of name ts s = ap (with_role plain) (first_mark_run node.Param m ms (Id of ∷ (Id name ∷ ts)) (after_param_comma s))
 
 -- the first parameter is read as one behind a comma
 first_param_run : (ms : List (List ℕ)) (of name : List ℕ) (ts : List Token) (s : State) → run (spell_param (record { marks = ms; of = of; name = name }) ts) (in_params s) ≡ run (spell_param (record { marks = ms; of = of; name = name }) ts) (after_param_comma (record s { params = [] }))
-unfolding run
+unfolding run_of
 first_param_run [] of name ts s = refl
 first_param_run (m ∷ ms) of name ts s = refl
 
 -- the parameters after the first, and the bracket
 pub more_params_run : (ds : List Declared) (ts : List Token) (s : State) → run (each_behind Comma spell_param ds (CloseParen ∷ ts)) (after_param s) ≡ with_roles (λ rs. each_behind plain roles_param ds (plain ∷ rs)) (run ts (after_params (record s { params = s.params ++ numbered (value_param s.features) (length s.params) ds })))
-unfolding run
+unfolding run_of
 more_params_run [] ts s = ap (λ ps. with_role plain (run ts (after_params (record s { params = ps })))) (sym (append-nil s.params))
 more_params_run (d ∷ ds) ts s =
     ap (with_role plain) (param_run d.marks d.of d.name (each_behind Comma spell_param ds (CloseParen ∷ ts)) s)
@@ -132,7 +146,7 @@ more_params_run (d ∷ ds) ts s =
 
 -- list(param), and the bracket
 params_run : (ds : List Declared) (ts : List Token) (s : State) → run (separated Comma spell_param ds (CloseParen ∷ ts)) (in_params s) ≡ with_roles (λ rs. separated plain roles_param ds (plain ∷ rs)) (run ts (after_params (record s { params = numbered (value_param s.features) 0 ds })))
-unfolding run
+unfolding run_of
 params_run [] ts s = refl
 params_run (d ∷ ds) ts s =
     first_param_run d.marks d.of d.name (each_behind Comma spell_param ds (CloseParen ∷ ts)) s
@@ -141,19 +155,19 @@ params_run (d ∷ ds) ts s =
 
 -- a sent name with these marks behind a comma
 sent_run : (ms : List (List ℕ)) (name : List ℕ) (ts : List Token) (s : State) → run (spell_sent (record { marks = ms; name = name }) ts) (after_send_comma s) ≡ with_roles (roles_sent (record { marks = ms; name = name })) (run ts (after_send (with_a_sent s (record { marks = ms; name = name }))))
-unfolding run
+unfolding run_of
 sent_run [] name ts s = refl
 sent_run (m ∷ ms) name ts s = ap (with_role plain) (first_mark_run node.Send m ms (Id name ∷ ts) (after_send_comma s))
 
 -- the first sent name is read as one behind a comma
 first_sent_run : (ms : List (List ℕ)) (name : List ℕ) (ts : List Token) (s : State) → run (spell_sent (record { marks = ms; name = name }) ts) (in_sends s) ≡ run (spell_sent (record { marks = ms; name = name }) ts) (after_send_comma (record s { sends = [] }))
-unfolding run
+unfolding run_of
 first_sent_run [] name ts s = refl
 first_sent_run (m ∷ ms) name ts s = refl
 
 -- the sent names after the first, and the bracket
 pub more_sends_run : (ds : List Named) (ts : List Token) (s : State) → run (each_behind Comma spell_sent ds (CloseParen ∷ ts)) (after_send s) ≡ with_roles (λ rs. each_behind plain roles_sent ds (plain ∷ rs)) (run ts (after_sends (record s { sends = s.sends ++ numbered (value_sent s.features) (length s.sends) ds })))
-unfolding run
+unfolding run_of
 more_sends_run [] ts s = ap (λ ps. with_role plain (run ts (after_sends (record s { sends = ps })))) (sym (append-nil s.sends))
 more_sends_run (d ∷ ds) ts s =
     ap (with_role plain) (sent_run d.marks d.name (each_behind Comma spell_sent ds (CloseParen ∷ ts)) s)
@@ -162,7 +176,7 @@ more_sends_run (d ∷ ds) ts s =
 
 -- list(sent), and the bracket
 sends_run : (ds : List Named) (ts : List Token) (s : State) → run (separated Comma spell_sent ds (CloseParen ∷ ts)) (in_sends s) ≡ with_roles (λ rs. separated plain roles_sent ds (plain ∷ rs)) (run ts (after_sends (record s { sends = numbered (value_sent s.features) 0 ds })))
-unfolding run
+unfolding run_of
 sends_run [] ts s = refl
 sends_run (d ∷ ds) ts s =
     first_sent_run d.marks d.name (each_behind Comma spell_sent ds (CloseParen ∷ ts)) s
@@ -171,14 +185,14 @@ sends_run (d ∷ ds) ts s =
 
 -- an assignment's words behind the first, with the colours in hand
 assign_words_run : (w : List ℕ) (ts : List Token) (s : State) → run (Dot ∷ (Id w ∷ (Equals ∷ (Id w ∷ (Semicolon ∷ ts))))) (record s { mode = AfterThis; last = unnamed }) ≡ with_roles (λ rs. plain ∷ (assigned_name w ∷ (plain ∷ (used_name w ∷ (plain ∷ rs))))) (run ts (in_assigns (record s { assigns = s.assigns ++ record { slot = length s.assigns; colors = s.colors; name = w } ∷ [] })))
-unfolding run
+unfolding run_of
 assign_words_run w ts s =
     let n : State = record s { mode = AfterSecondName; assigns = s.assigns ++ record { slot = length s.assigns; colors = s.colors; name = w } ∷ []; colors = 0; last = unnamed } in
-    ap (λ b. with_roles (λ rs. plain ∷ (assigned_name w ∷ (plain ∷ rs))) (then_run (run (Semicolon ∷ ts)) (used_name w) (if b then Some n else None))) (same_name w)
+    ap (λ b. with_roles (λ rs. plain ∷ (assigned_name w ∷ (plain ∷ rs))) (then_run (run (Semicolon ∷ ts)) (used_name w ∷ []) (if b then Some n else None))) (same_name w)
 
 -- an assignment with these marks
 assign_run : (ms : List (List ℕ)) (w : List ℕ) (ts : List Token) (s : State) → run (spell_assign (record { marks = ms; name = w }) ts) (in_assigns s) ≡ with_roles (roles_assign (record { marks = ms; name = w })) (run ts (in_assigns (with_an_assign s (record { marks = ms; name = w }))))
-unfolding run
+unfolding run_of
 assign_run [] w ts s = ap (with_role plain) (assign_words_run w ts (in_assigns s))
 assign_run (m ∷ ms) w ts s =
     ap (with_role plain) (first_mark_run node.Assign m ms (ThisWord ∷ (Dot ∷ (Id w ∷ (Equals ∷ (Id w ∷ (Semicolon ∷ ts)))))) (in_assigns s))
@@ -201,7 +215,7 @@ behind_ctor k s = record s { mode = AfterCtor; params = numbered (value_param s.
 
 -- the constructor from its body on
 body_run : (k : ClassTree) (ts : List Token) (s : State) → run (OpenBrace ∷ (SuperWord ∷ (OpenParen ∷ separated Comma spell_sent k.sends (CloseParen ∷ (Semicolon ∷ in_order spell_assign k.assigns (CloseBrace ∷ ts)))))) (before_body k s) ≡ with_roles (λ rs. plain ∷ (plain ∷ (plain ∷ separated plain roles_sent k.sends (plain ∷ (plain ∷ in_order roles_assign k.assigns (plain ∷ rs)))))) (run ts (behind_ctor k s))
-unfolding run
+unfolding run_of
 body_run k ts s =
     ap (with_roles (λ rs. plain ∷ (plain ∷ (plain ∷ rs)))) (sends_run k.sends (Semicolon ∷ in_order spell_assign k.assigns (CloseBrace ∷ ts)) (before_body k s))
     ∙ ap (with_roles (λ rs. plain ∷ (plain ∷ (plain ∷ separated plain roles_sent k.sends (plain ∷ (plain ∷ rs)))))) (assigns_run k.assigns (CloseBrace ∷ ts) (record (before_body k s) { sends = numbered (value_sent s.features) 0 k.sends }))
@@ -212,11 +226,11 @@ named w s = in_members (record s { name = w; params = []; sends = []; assigns = 
 
 -- ctor, in a class of its name
 ctor_run : (k : ClassTree) (ts : List Token) (s : State) → run (spell_ctor k ts) (named k.name s) ≡ with_roles (roles_ctor k) (run ts (behind_ctor k (record s { name = k.name })))
-unfolding run
+unfolding run_of
 ctor_run k ts s =
     let body : List Token = OpenBrace ∷ (SuperWord ∷ (OpenParen ∷ separated Comma spell_sent k.sends (CloseParen ∷ (Semicolon ∷ in_order spell_assign k.assigns (CloseBrace ∷ ts))))) in
     let n : State = record s { mode = InParams; name = k.name; params = []; sends = []; assigns = []; colors = 0; of = unnamed; last = unnamed } in
-    ap (λ b. with_role (used_name k.name) (then_run (run (separated Comma spell_param k.params (CloseParen ∷ body))) plain (if b then Some n else None))) (same_name k.name)
+    ap (λ b. with_role (used_name k.name) (then_run (run (separated Comma spell_param k.params (CloseParen ∷ body))) (plain ∷ []) (if b then Some n else None))) (same_name k.name)
     ∙ ap (with_roles (λ rs. used_name k.name ∷ (plain ∷ rs))) (params_run k.params body n)
     ∙ ap (with_roles (λ rs. used_name k.name ∷ (plain ∷ separated plain roles_param k.params (plain ∷ rs)))) (body_run k ts (record s { name = k.name }))
 
@@ -228,85 +242,191 @@ members_run ds k ts s =
 
 -- ---- classes
 
+-- {method}, where there is none
+methods_run : (k : ClassTree) (ms : List MethodTree) → AreNone ms → (ts : List Token) (s : State) → run (in_order spell_method ms (CloseBrace ∷ ts)) (record s { mode = AfterCtor }) ≡ with_roles (λ rs. in_order roles_method ms (plain ∷ rs)) (run ts (record (behind s.features s.constraints (s.classes ++ record (class_of s) { methods = map (value_method s.features) ms } ∷ [])) { formula = s.formula }))
+unfolding run_of
+methods_run k [] none ts s = refl
+methods_run k (m ∷ ms) none ts s = absurd none
+
 -- a class behind its first word, with its colours in hand
-class_words_run : (k : ClassTree) (colors : ℕ) (ts : List Token) (fs : List (List ℕ)) (cs : List Class) → run (Id k.name ∷ (ExtendsWord ∷ (Id k.parent ∷ (OpenBrace ∷ in_order spell_field k.fields (spell_ctor k (CloseBrace ∷ ts)))))) (record (behind fs cs) { mode = AfterClass; class_colors = colors }) ≡ with_roles (λ rs. class_name k.name ∷ (plain ∷ (used_name k.parent ∷ (plain ∷ in_order roles_field k.fields (roles_ctor k (plain ∷ rs)))))) (run ts (behind fs (cs ++ record (value_class fs k) { colors = colors } ∷ [])))
-unfolding run
-class_words_run k colors ts fs cs =
-    ap (with_roles (λ rs. class_name k.name ∷ (plain ∷ (used_name k.parent ∷ (plain ∷ rs))))) (members_run k.fields k (CloseBrace ∷ ts) (record (behind fs cs) { class_colors = colors; parent = k.parent }))
+class_words_run : (k : ClassTree) → AreNone k.methods → (colors : ℕ) (ts : List Token) (fs : List (List ℕ)) (gs : List Formula) (cs : List Class) → run (Id k.name ∷ (ExtendsWord ∷ (Id k.parent ∷ (OpenBrace ∷ in_order spell_field k.fields (spell_ctor k (in_order spell_method k.methods (CloseBrace ∷ ts))))))) (record (behind fs gs cs) { mode = AfterClass; class_colors = colors }) ≡ with_roles (λ rs. class_name k.name ∷ (plain ∷ (used_name k.parent ∷ (plain ∷ in_order roles_field k.fields (roles_ctor k (in_order roles_method k.methods (plain ∷ rs))))))) (run ts (behind fs gs (cs ++ record (value_class fs k) { colors = colors } ∷ [])))
+unfolding run_of
+class_words_run k none colors ts fs gs cs =
+    let n : State = record (behind fs gs cs) { class_colors = colors; parent = k.parent } in
+    ap (with_roles (λ rs. class_name k.name ∷ (plain ∷ (used_name k.parent ∷ (plain ∷ rs)))))
+    (members_run k.fields k (in_order spell_method k.methods (CloseBrace ∷ ts)) n
+    ∙ ap (with_roles (λ rs. in_order roles_field k.fields (roles_ctor k rs))) (methods_run k k.methods none ts (behind_ctor k (record n { name = k.name; fields = map (value_field fs) k.fields }))))
 
 -- a class's marks and its first word
-class_marks_run : (ms : List (List ℕ)) (ts : List Token) (fs : List (List ℕ)) (cs : List Class) → run (spell_marks ms (ClassWord ∷ ts)) (behind fs cs) ≡ with_roles (λ rs. roles_marks ms (plain ∷ rs)) (run ts (record (behind fs cs) { mode = AfterClass; class_colors = colors_of fs ms }))
-unfolding run
-class_marks_run [] ts fs cs = refl
-class_marks_run (m ∷ ms) ts fs cs = ap (with_role plain) (first_mark_run node.Class m ms (ClassWord ∷ ts) (behind fs cs))
+class_marks_run : (ms : List (List ℕ)) (ts : List Token) (fs : List (List ℕ)) (gs : List Formula) (cs : List Class) → run (spell_marks ms (ClassWord ∷ ts)) (behind fs gs cs) ≡ with_roles (λ rs. roles_marks ms (plain ∷ rs)) (run ts (record (behind fs gs cs) { mode = AfterClass; class_colors = colors_of fs ms }))
+unfolding run_of
+class_marks_run [] ts fs gs cs = refl
+class_marks_run (m ∷ ms) ts fs gs cs = ap (with_role plain) (first_mark_run node.Class m ms (ClassWord ∷ ts) (behind fs gs cs))
+
+-- a class behind its marks
+abbrev class_text : ClassTree → List Token → List Token
+class_text k ts = Id k.name ∷ (ExtendsWord ∷ (Id k.parent ∷ (OpenBrace ∷ in_order spell_field k.fields (spell_ctor k (in_order spell_method k.methods (CloseBrace ∷ ts))))))
 
 -- class
-class_run : (k : ClassTree) (ts : List Token) (fs : List (List ℕ)) (cs : List Class) → run (spell_class k ts) (behind fs cs) ≡ with_roles (roles_class k) (run ts (behind fs (cs ++ value_class fs k ∷ [])))
-class_run k ts fs cs =
-    class_marks_run k.marks (Id k.name ∷ (ExtendsWord ∷ (Id k.parent ∷ (OpenBrace ∷ in_order spell_field k.fields (spell_ctor k (CloseBrace ∷ ts)))))) fs cs
-    ∙ ap (with_roles (λ rs. roles_marks k.marks (plain ∷ rs))) (class_words_run k (colors_of fs k.marks) ts fs cs)
+class_run : (k : ClassTree) → AreNone k.methods → (ts : List Token) (fs : List (List ℕ)) (gs : List Formula) (cs : List Class) → run (spell_class k ts) (behind fs gs cs) ≡ with_roles (roles_class k) (run ts (behind fs gs (cs ++ value_class fs k ∷ [])))
+class_run k none ts fs gs cs =
+    class_marks_run k.marks (class_text k ts) fs gs cs
+    ∙ ap (with_roles (λ rs. roles_marks k.marks (plain ∷ rs))) (class_words_run k none (colors_of fs k.marks) ts fs gs cs)
 
 -- {class}
-classes_run_on : (ks : List ClassTree) (ts : List Token) (fs : List (List ℕ)) (cs : List Class) → run (in_order spell_class ks ts) (behind fs cs) ≡ with_roles (in_order roles_class ks) (run ts (behind fs (cs ++ map (value_class fs) ks)))
-classes_run_on [] ts fs cs = ap (λ all. run ts (behind fs all)) (sym (append-nil cs))
-classes_run_on (k ∷ ks) ts fs cs =
-    class_run k (in_order spell_class ks ts) fs cs
-    ∙ ap (with_roles (roles_class k)) (classes_run_on ks ts fs (cs ++ value_class fs k ∷ []))
-    ∙ ap (λ all. with_roles (in_order roles_class (k ∷ ks)) (run ts (behind fs all))) (append_assoc cs (value_class fs k ∷ []) (map (value_class fs) ks))
+classes_run_on : (ks : List ClassTree) → HaveNoMethods ks → (ts : List Token) (fs : List (List ℕ)) (gs : List Formula) (cs : List Class) → run (in_order spell_class ks ts) (behind fs gs cs) ≡ with_roles (in_order roles_class ks) (run ts (behind fs gs (cs ++ map (value_class fs) ks)))
+classes_run_on [] none ts fs gs cs = ap (λ all. run ts (behind fs gs all)) (sym (append-nil cs))
+classes_run_on (k ∷ ks) none ts fs gs cs =
+    class_run k none.0 (in_order spell_class ks ts) fs gs cs
+    ∙ ap (with_roles (roles_class k)) (classes_run_on ks none.1 ts fs gs (cs ++ value_class fs k ∷ []))
+    ∙ ap (λ all. with_roles (in_order roles_class (k ∷ ks)) (run ts (behind fs gs all))) (append_assoc cs (value_class fs k ∷ []) (map (value_class fs) ks))
 
 -- ---- the feature line
 
 -- the features after the first, and the semicolon
 more_features_run : (fs : List (List ℕ)) (ts : List Token) (s : State) → run (each_behind Comma spell_name fs (Semicolon ∷ ts)) (record s { mode = AfterFeature }) ≡ with_roles (λ rs. each_behind plain roles_feature fs (plain ∷ rs)) (run ts (record s { mode = Start; features = s.features ++ fs }))
-unfolding run
+unfolding run_of
 more_features_run [] ts s = ap (λ fs. with_role plain (run ts (record s { mode = Start; features = fs }))) (sym (append-nil s.features))
 more_features_run (f ∷ fs) ts s =
     ap (with_roles (λ rs. plain ∷ roles_feature f rs)) (more_features_run fs ts (record s { features = s.features ++ f ∷ [] }))
     ∙ ap (λ all. with_roles (λ rs. each_behind plain roles_feature (f ∷ fs) (plain ∷ rs)) (run ts (record s { mode = Start; features = all }))) (append_assoc s.features (f ∷ []) fs)
 
 -- a line of features
-features_run : (f : List ℕ) (fs : List (List ℕ)) (ts : List Token) → run (spell_features (f ∷ fs) ts) start ≡ with_roles (roles_features (f ∷ fs)) (run ts (behind (f ∷ fs) []))
-unfolding run
+features_run : (f : List ℕ) (fs : List (List ℕ)) (ts : List Token) → run (spell_features (f ∷ fs) ts) start ≡ with_roles (roles_features (f ∷ fs)) (run ts (before_classes (f ∷ fs) []))
+unfolding run_of
 features_run f fs ts =
-    ap (λ b. then_run (run (Id f ∷ each_behind Comma spell_name fs (Semicolon ∷ ts))) (used_name features_word) (if b then to AfterFeatures start else None)) (same_name features_word)
-    ∙ ap (with_roles (λ rs. used_name features_word ∷ roles_feature f rs)) (more_features_run fs ts (behind (f ∷ []) []))
+    ap (λ b. then_run (run (Id f ∷ each_behind Comma spell_name fs (Semicolon ∷ ts))) (used_name features_word ∷ []) (if b then to AfterFeatures start else opens_constraint start features_word)) (same_name features_word)
+    ∙ ap (with_roles (λ rs. used_name features_word ∷ roles_feature f rs)) (more_features_run fs ts (behind (f ∷ []) [] []))
+
+-- ---- constraints
+
+-- a formula that isn't whole has no value
+pub undone_none : (f : formula.State) → formula.is_done f ≡ false → formula.formula_of f ≡ None
+undone_none f e = go f.mode e
+  where
+    go : (m : formula_mode.Mode) → formula.is_done_in m ≡ false → formula.formula_in m ≡ None
+    go Want e = refl
+    go (After y) e = refl
+    go (Done y) e = absurd (let no : ⊥ = cc e in no)
+
+-- the tokens of a formula and its semicolon are the formula reader's
+pub formula_runs : (s : State) (us : List Token) (f : formula.State) (rs : List Role) (y : Formula) → Leads s.features us f rs y → (ts : List Token) → run (us ++ ts) (record s { mode = InConstraint; formula = f }) ≡ with_roles (λ qs. rs ++ qs) (run ts (record s { mode = Start; constraints = s.constraints ++ y ∷ []; formula = formula.start }))
+unfolding run_of
+formula_runs s _ f _ y (last _ _ e) ts = ap (λ o. then_run (run ts) (plain ∷ []) (in_formula (record s { mode = InConstraint; formula = f }) o)) e
+formula_runs s _ f _ y (more t us _ n rs _ e goes l) ts =
+    ap (λ o. then_run (run (us ++ ts)) (formula.role f t ∷ []) (in_formula (record s { mode = InConstraint; formula = f }) o)) e
+    ∙ ap (λ o. with_role (formula.role f t) (run (us ++ ts) (after_formula (record s { mode = InConstraint; formula = f }) n o))) (undone_none n goes)
+    ∙ ap (with_role (formula.role f t)) (formula_runs s us n rs y l ts)
+
+-- what follows a formula's tokens and its roles stands behind them
+pub formula_text : (x : IffTree) (ts : List Token) → spell_iff x (Semicolon ∷ ts) ≡ spell_iff x (Semicolon ∷ []) ++ ts
+formula_text x ts = sym (spell_iff_append x (Semicolon ∷ []) ts)
+
+formula_roles : (x : IffTree) (qs : List Role) → roles_iff 0 x (plain ∷ []) ++ qs ≡ roles_iff 0 x (plain ∷ qs)
+formula_roles x qs = roles_iff_append 0 x (plain ∷ []) qs
+
+-- a constraint behind its word
+constraint_words_run : (x : IffTree) (ts : List Token) (fs : List (List ℕ)) (gs : List Formula) → run (spell_iff x (Semicolon ∷ ts)) (record (before_classes fs gs) { mode = InConstraint }) ≡ with_roles (λ qs. roles_iff 0 x (plain ∷ qs)) (run ts (before_classes fs (gs ++ value_iff fs x ∷ [])))
+constraint_words_run x ts fs gs =
+    ap (λ w. run w (record (before_classes fs gs) { mode = InConstraint })) (formula_text x ts)
+    ∙ formula_runs (before_classes fs gs) (spell_iff x (Semicolon ∷ [])) formula.start (roles_iff 0 x (plain ∷ [])) (value_iff fs x) (formula_leads fs x) ts
+    ∙ ap (λ qs. ((run ts (before_classes fs (gs ++ value_iff fs x ∷ []))).0, qs)) (formula_roles x (run ts (before_classes fs (gs ++ value_iff fs x ∷ []))).1)
+
+-- "constraint" iff ";"
+constraint_run : (x : IffTree) (ts : List Token) (fs : List (List ℕ)) (gs : List Formula) → run (spell_constraint x ts) (before_classes fs gs) ≡ with_roles (roles_constraint x) (run ts (before_classes fs (gs ++ value_iff fs x ∷ [])))
+unfolding run_of
+constraint_run x ts fs gs =
+    ap (λ b. then_run (run (spell_iff x (Semicolon ∷ ts))) (used_name constraint_word ∷ []) (if b then to InConstraint (before_classes fs gs) else None)) (same_name constraint_word)
+    ∙ ap (with_role (used_name constraint_word)) (constraint_words_run x ts fs gs)
+
+-- the words differ
+is_no_features_word : bytes_eq constraint_word features_word ≡ false
+is_no_features_word = refl
+
+-- Where no feature line stands, the first constraint is read as one behind such a line.
+first_constraint_run : (x : IffTree) (ts : List Token) → run (spell_constraint x ts) start ≡ run (spell_constraint x ts) (before_classes [] [])
+unfolding run_of
+first_constraint_run x ts =
+    ap (λ b. then_run (run (spell_iff x (Semicolon ∷ ts))) (used_name constraint_word ∷ []) (if b then to AfterFeatures start else opens_constraint start constraint_word)) is_no_features_word
+
+-- {constraint}
+constraints_run : (xs : List IffTree) (ts : List Token) (fs : List (List ℕ)) (gs : List Formula) → run (in_order spell_constraint xs ts) (before_classes fs gs) ≡ with_roles (in_order roles_constraint xs) (run ts (before_classes fs (gs ++ map (value_iff fs) xs)))
+constraints_run [] ts fs gs = ap (λ all. run ts (before_classes fs all)) (sym (append-nil gs))
+constraints_run (x ∷ xs) ts fs gs =
+    constraint_run x (in_order spell_constraint xs ts) fs gs
+    ∙ ap (with_roles (roles_constraint x)) (constraints_run xs ts fs (gs ++ value_iff fs x ∷ []))
+    ∙ ap (λ all. with_roles (in_order roles_constraint (x ∷ xs)) (run ts (before_classes fs all))) (append_assoc gs (value_iff fs x ∷ []) (map (value_iff fs) xs))
 
 -- ---- a tree
 
--- With no feature line the first class is read as one behind such a line.
-first_class_run : (ms : List (List ℕ)) (ts : List Token) → run (spell_marks ms (ClassWord ∷ ts)) start ≡ run (spell_marks ms (ClassWord ∷ ts)) (behind [] [])
-unfolding run
-first_class_run [] ts = refl
-first_class_run (m ∷ ms) ts = refl
+-- The first class is read as one behind others, with nothing before it or behind the feature line or a constraint.
+begins_class : (ms : List (List ℕ)) (ts : List Token) → run (spell_marks ms (ClassWord ∷ ts)) start ≡ run (spell_marks ms (ClassWord ∷ ts)) (behind [] [] [])
+unfolding run_of
+begins_class [] ts = refl
+begins_class (m ∷ ms) ts = refl
 
--- the mode behind the features and the classes
-abbrev pub mode_behind : List (List ℕ) → List ClassTree → Mode
-mode_behind [] [] = Begin
-mode_behind [] (k ∷ ks) = Start
-mode_behind (f ∷ fs) ks = Start
+first_class_run : (ms : List (List ℕ)) (ts : List Token) (fs : List (List ℕ)) (gs : List Formula) → run (spell_marks ms (ClassWord ∷ ts)) (before_classes fs gs) ≡ run (spell_marks ms (ClassWord ∷ ts)) (behind fs gs [])
+unfolding run_of
+first_class_run [] ts fs gs = refl
+first_class_run (m ∷ ms) ts fs gs = refl
+
+-- the mode behind the features, the constraints and the classes
+abbrev pub mode_behind : List (List ℕ) → List IffTree → List ClassTree → Mode
+mode_behind [] [] [] = Begin
+mode_behind (f ∷ fs) xs [] = Start
+mode_behind [] (x ∷ xs) [] = Start
+mode_behind fs xs (k ∷ ks) = BetweenClasses
+
+-- the state behind them
+abbrev pub behind_all : List (List ℕ) → List IffTree → List ClassTree → State
+behind_all fs xs ks = record (behind fs (map (value_iff fs) xs) (map (value_class fs) ks)) { mode = mode_behind fs xs ks }
+
+-- the classes behind a feature line, and behind a constraint
+behind_features : (f : List ℕ) (fs : List (List ℕ)) (xs : List IffTree) (ks : List ClassTree) → HaveNoMethods ks → (ts : List Token) → run (in_order spell_class ks ts) (before_classes (f ∷ fs) (map (value_iff (f ∷ fs)) xs)) ≡ with_roles (in_order roles_class ks) (run ts (behind_all (f ∷ fs) xs ks))
+behind_features f fs xs [] none ts = refl
+behind_features f fs xs (k ∷ ks) none ts =
+    first_class_run k.marks (class_text k (in_order spell_class ks ts)) (f ∷ fs) (map (value_iff (f ∷ fs)) xs)
+    ∙ classes_run_on (k ∷ ks) none ts (f ∷ fs) (map (value_iff (f ∷ fs)) xs) []
+
+behind_constraint : (x : IffTree) (xs : List IffTree) (ks : List ClassTree) → HaveNoMethods ks → (ts : List Token) → run (in_order spell_class ks ts) (before_classes [] (map (value_iff []) (x ∷ xs))) ≡ with_roles (in_order roles_class ks) (run ts (behind_all [] (x ∷ xs) ks))
+behind_constraint x xs [] none ts = refl
+behind_constraint x xs (k ∷ ks) none ts =
+    first_class_run k.marks (class_text k (in_order spell_class ks ts)) [] (map (value_iff []) (x ∷ xs))
+    ∙ classes_run_on (k ∷ ks) none ts [] (map (value_iff []) (x ∷ xs)) []
 
 -- a tree, and more
-tree_run : (fs : List (List ℕ)) (ks : List ClassTree) (ts : List Token) → run (spell_features fs (in_order spell_class ks ts)) start ≡ with_roles (λ rs. roles_features fs (in_order roles_class ks rs)) (run ts (record (behind fs (map (value_class fs) ks)) { mode = mode_behind fs ks }))
-tree_run [] [] ts = refl
-tree_run [] (k ∷ ks) ts =
-    first_class_run k.marks (Id k.name ∷ (ExtendsWord ∷ (Id k.parent ∷ (OpenBrace ∷ in_order spell_field k.fields (spell_ctor k (CloseBrace ∷ in_order spell_class ks ts))))))
-    ∙ classes_run_on (k ∷ ks) ts [] []
-tree_run (f ∷ fs) ks ts =
-    features_run f fs (in_order spell_class ks ts)
-    ∙ ap (with_roles (roles_features (f ∷ fs))) (classes_run_on ks ts (f ∷ fs) [])
+parts_run : (fs : List (List ℕ)) (xs : List IffTree) (ks : List ClassTree) → HaveNoMethods ks → (ts : List Token) → run (spell_features fs (in_order spell_constraint xs (in_order spell_class ks ts))) start ≡ with_roles (λ rs. roles_features fs (in_order roles_constraint xs (in_order roles_class ks rs))) (run ts (behind_all fs xs ks))
+parts_run [] [] [] none ts = refl
+parts_run [] [] (k ∷ ks) none ts = begins_class k.marks (class_text k (in_order spell_class ks ts)) ∙ classes_run_on (k ∷ ks) none ts [] [] []
+parts_run [] (x ∷ xs) ks none ts =
+    first_constraint_run x (in_order spell_constraint xs (in_order spell_class ks ts))
+    ∙ constraints_run (x ∷ xs) (in_order spell_class ks ts) [] []
+    ∙ ap (with_roles (in_order roles_constraint (x ∷ xs))) (behind_constraint x xs ks none ts)
+parts_run (f ∷ fs) xs ks none ts =
+    features_run f fs (in_order spell_constraint xs (in_order spell_class ks ts))
+    ∙ ap (with_roles (roles_features (f ∷ fs))) (constraints_run xs (in_order spell_class ks ts) (f ∷ fs) [])
+    ∙ ap (with_roles (λ rs. roles_features (f ∷ fs) (in_order roles_constraint xs rs))) (behind_features f fs xs ks none ts)
+
+tree_run : (x : BuiltTree) (ts : List Token) → run (spell x.tree ts) start ≡ with_roles (roles x.tree) (run ts (behind_all x.tree.features x.tree.constraints x.tree.classes))
+tree_run x ts = parts_run x.tree.features x.tree.constraints x.tree.classes x.no_methods ts
 
 -- the tokens of a tree are read, in the tree's roles, to the tree's value
-pub classes_run : (tree : Tree) → run (spell tree []) start ≡ (Some (record (behind tree.features (map (value_class tree.features) tree.classes)) { mode = mode_behind tree.features tree.classes }), roles tree [])
-unfolding run
-classes_run tree = tree_run tree.features tree.classes []
+pub classes_run : (x : BuiltTree) → run (spell x.tree []) start ≡ (Some (behind_all x.tree.features x.tree.constraints x.tree.classes), roles x.tree [])
+unfolding run_of
+classes_run x = tree_run x []
 
 -- behind them the text may end
-end_run : (fs : List (List ℕ)) (ks : List ClassTree) → run (End ∷ []) (record (behind fs (map (value_class fs) ks)) { mode = mode_behind fs ks }) ≡ (Some (record (behind fs (map (value_class fs) ks)) { mode = AtEnd }), plain ∷ [])
-unfolding run
-end_run [] [] = refl
-end_run [] (k ∷ ks) = refl
-end_run (f ∷ fs) ks = refl
+end_run : (fs : List (List ℕ)) (xs : List IffTree) (ks : List ClassTree) → run (End ∷ []) (behind_all fs xs ks) ≡ (Some (record (behind_all fs xs ks) { mode = AtEnd }), plain ∷ [])
+unfolding run_of
+end_run [] [] [] = refl
+end_run (f ∷ fs) xs [] = refl
+end_run [] (x ∷ xs) [] = refl
+end_run fs xs (k ∷ ks) = refl
+
+-- the state behind a tree and the end of the text
+abbrev pub ended : BuiltTree → State
+ended x = record (behind_all x.tree.features x.tree.constraints x.tree.classes) { mode = AtEnd }
 
 -- and so is the whole text
-pub text_runs : (tree : Tree) → run (spell tree (End ∷ [])) start ≡ (Some (record (behind tree.features (map (value_class tree.features) tree.classes)) { mode = AtEnd }), roles tree (plain ∷ []))
-text_runs tree = tree_run tree.features tree.classes (End ∷ []) ∙ ap (with_roles (roles tree)) (end_run tree.features tree.classes)
+pub text_runs : (x : BuiltTree) → run (spell x.tree (End ∷ [])) start ≡ (Some (ended x), roles x.tree (plain ∷ []))
+text_runs x = tree_run x (End ∷ []) ∙ ap (with_roles (roles x.tree)) (end_run x.tree.features x.tree.constraints x.tree.classes)

@@ -1,6 +1,6 @@
 -- A tree whose tokens break nothing stands for what a project's type keeps.
 use Rattle.std.proofs.Common.{◌≡◌, ℕ, ◌+◌, ◌^◌, ◌≤◌, ◌<◌, Bool, true, false, ◌&&◌, List, [], ◌∷◌, ◌++◌, length, map, refl, sym, subst, arith, Some, None, nat_le, bytes_eq}
-use Rattle.std.specs.Prelude.{nat_lt, bit_or}
+use Rattle.std.specs.Prelude.{nat_lt, bit_or, sum_by}
 use Rattle.std.specs.List.{list_all, position_or_len}
 use Rattle.std.proofs.Math.Pow.{pow-lt, pow_pos}
 use Rattle.std.proofs.lemmas.Nat.{or_lt}
@@ -18,10 +18,20 @@ use Rattle.cfj_model.specs.declared.class.Constructor.{Constructor}
 use Rattle.cfj_model.specs.declared.class.Class.{Class}
 use Rattle.cfj_model.specs.Names.{is_identifier, is_short_identifier}
 use Rattle.cfj_model.specs.Tokens.{Token, Id, ClassWord, ExtendsWord, ThisWord, Dot, Equals, Comma, CloseParen, OpenBrace, SuperWord, OpenParen, Semicolon, CloseBrace}
-use Rattle.cfj_model.specs.ProductLines.{most_features, most_classes, most_fields, most_in_ctor, most_size, object, has, are_new, are_known, rise_from, is_field, is_param, is_sent, are_fields, is_ctor, is_class, class_size, size, IsProject}
-use Rattle.cfj_model.specs.Grammar.{Declared, Named, ClassTree, Tree, in_order, each_behind, separated, features_word, spell_name, spell_features, spell_marks, spell_field, spell_param, spell_sent, spell_assign, spell_ctor, spell_class, spell, numbered, color_at, color_of, colored, colors_of, value_field, value_param, value_sent, value_ctor, value_class, value}
-use Rattle.cfj_model.specs.Roles.{Role, feature_name, class_name, field_name, param_name, sent_name, assigned_name, used_name, plain, roles_feature, roles_features, roles_marks, roles_field, roles_param, roles_sent, roles_assign, roles_ctor, roles_class, roles, Tally, nothing, counted, first_of, is_long, broken_by, AreWithin}
-use Rattle.fj_parser.specs.Machine.{are_read}
+use Rattle.cfj_model.specs.ProductLines.{most_features, most_classes, most_fields, most_in_ctor, most_methods, most_formula_nodes, most_size, object, has, are_new, rise_from, is_field, is_param, is_sent, are_fields, is_ctor, is_method, are_methods, is_class, is_constraint, method_size, class_size, size, IsProject}
+use Rattle.cfj_model.specs.Expressions.{are_known}
+use Rattle.cfj_model.specs.declared.class.Method.{Method}
+use Rattle.cfj_model.specs.declared.formula.Formula.{Formula}
+use Rattle.cfj_model.specs.FormulaGrammar.{IffTree, spell_iff, value_iff}
+use Rattle.formula_reader.proofs.Kept.{constraint_kept, Behind, behind_formula}
+use Rattle.formula_reader.proofs.Texts.{spell_iff_append}
+use Rattle.cfj_model.specs.Formulas.{formula_node_count}
+use Rattle.cfj_model.specs.Grammar.{Declared, Named, MethodTree, ClassTree, constraint_word, features_word, spell_name, spell_features, spell_field, spell_param, spell_sent, spell_assign, spell_ctor, spell_method, spell_constraint, spell_class, spell, numbered, value_field, value_param, value_sent, value_ctor, value_method, value_class, value}
+use Rattle.cfj_model.specs.Marks.{in_order, each_behind, separated, spell_marks, roles_marks, color_at, color_of, colored, colors_of}
+use Rattle.cfj_model.specs.Roles.{Role, feature_name, class_name, field_name, param_name, sent_name, assigned_name, used_name, plain, Tally, nothing, counted, first_of, is_long, past_size, broken_by, AreWithin}
+use Rattle.cfj_model.specs.TreeRoles.{roles_feature, roles_features, roles_field, roles_param, roles_sent, roles_assign, roles_ctor, roles_method, roles_constraint, roles_class, roles}
+use Rattle.fj_symbols.specs.Views.{is_read, are_read}
+use Rattle.fj_parser.specs.Built.{AreNone, HaveNoMethods, BuiltTree}
 
 -- no test holds
 abbrev pub NoneHolds : List (Bool × FaultKind) → Type 0
@@ -72,9 +82,9 @@ record ClassFits (t : Tally) (w : List ℕ) : Type 0 where
   small : t.size < most_size
 
 class_fits : (t : Tally) (w : List ℕ) → broken_by t (class_name w) ≡ None → ClassFits t w
-class_fits t w e = go (none_holds ((bytes_eq w object, Reserved) ∷ ((is_long w, Limit limit.Name) ∷ ((has t.classes w, Twice w) ∷ ((nat_le most_classes (length t.classes), Limit limit.Classes) ∷ ((nat_le most_size t.size, Limit limit.Size) ∷ []))))) e)
+class_fits t w e = go (none_holds ((bytes_eq w object, Reserved) ∷ ((is_long w, Limit limit.Name) ∷ ((has t.classes w, Twice w) ∷ ((nat_le most_classes (length t.classes), Limit limit.Classes) ∷ (past_size t ∷ []))))) e)
   where
-    go : NoneHolds ((bytes_eq w object, Reserved) ∷ ((is_long w, Limit limit.Name) ∷ ((has t.classes w, Twice w) ∷ ((nat_le most_classes (length t.classes), Limit limit.Classes) ∷ ((nat_le most_size t.size, Limit limit.Size) ∷ []))))) → ClassFits t w
+    go : NoneHolds ((bytes_eq w object, Reserved) ∷ ((is_long w, Limit limit.Name) ∷ ((has t.classes w, Twice w) ∷ ((nat_le most_classes (length t.classes), Limit limit.Classes) ∷ (past_size t ∷ []))))) → ClassFits t w
     go (a, (b, (c, (d, (f, end))))) = record { length_fits = b; no_object = a; new = c; few = leb-false _ _ d; small = leb-false _ _ f }
 
 used_short : (w : List ℕ) (t : Tally) → is_identifier w ≡ true → broken_by t (used_name w) ≡ None → is_short_identifier w ≡ true
@@ -355,55 +365,87 @@ ctor_kept features before marks fields n k rest more small (used, (opened, w)) r
       read = a.read;
     }
 
+-- ---- methods
+
+-- what is known behind the methods of a class
+record MethodsKept (n : ℕ) (t : Tally) (methods : List Method) (rest : List Role) (more : List Token) : Type 0 where
+  marks : List (List ℕ)
+  names : List (List ℕ)
+  params : List (List ℕ)
+  nodes : ℕ
+  few : length t.methods + length methods ≤ most_methods
+  new : are_new t.methods (map (λ m. m.name) methods) ≡ true
+  each : list_all (is_method n) methods ≡ true
+  small : t.size + sum_by method_size methods ≤ most_size
+  within : AreWithin (record t { marks = marks; methods = names; params = params; nodes = nodes; size = t.size + sum_by method_size methods }) rest
+  read : are_read more ≡ true
+
+methods_kept : (features : List (List ℕ)) (t : Tally) (ms : List MethodTree) → AreNone ms → (rest : List Role) (more : List Token) → length t.methods ≤ most_methods → t.size ≤ most_size → AreWithin t (in_order roles_method ms rest) → are_read (in_order spell_method ms more) ≡ true → MethodsKept (length features) t (map (value_method features) ms) rest more
+methods_kept features t [] none rest more few small w r =
+    record { marks = t.marks; names = t.methods; params = t.params; nodes = t.nodes; few = omega arith; new = refl; each = refl; small = omega arith; within = subst (λ n. AreWithin (record t { size = n }) rest) (omega arith) w; read = r }
+methods_kept features t (m ∷ ms) none rest more few small w r = absurd none
+
 -- ---- classes
 
 -- what is known behind a class
 record ClassKept (n : ℕ) (t : Tally) (k : Class) (rest : List Role) (more : List Token) : Type 0 where
   marks : List (List ℕ)
   fields : List (List ℕ)
+  methods : List (List ℕ)
   params : List (List ℕ)
   sends : ℕ
   assigns : ℕ
+  nodes : ℕ
   new : has t.classes k.name ≡ false
   few : length t.classes < most_classes
   is : is_class n k ≡ true
   small : t.size + class_size k ≤ most_size
-  within : AreWithin (record { features = t.features; marks = marks; classes = t.classes ++ k.name ∷ []; fields = fields; params = params; sends = sends; assigns = assigns; size = t.size + class_size k }) rest
+  within : AreWithin (record t { marks = marks; classes = t.classes ++ k.name ∷ []; fields = fields; methods = methods; params = params; sends = sends; assigns = assigns; nodes = nodes; size = t.size + class_size k }) rest
   read : are_read more ≡ true
 
-class_is : (features : List (List ℕ)) (k : ClassTree) → is_short_identifier k.name ≡ true → bytes_eq k.name object ≡ false → is_short_identifier k.parent ≡ true → are_fields (length features) (map (value_field features) k.fields) ≡ true → is_ctor (length features) (value_ctor features k) ≡ true → is_class (length features) (value_class features k) ≡ true
+class_is : (features : List (List ℕ)) (k : ClassTree) → is_short_identifier k.name ≡ true → bytes_eq k.name object ≡ false → is_short_identifier k.parent ≡ true → are_fields (length features) (map (value_field features) k.fields) ≡ true → is_ctor (length features) (value_ctor features k) ≡ true → are_methods (length features) (map (value_method features) k.methods) ≡ true → is_class (length features) (value_class features k) ≡ true
 unfolding is_class
-class_is features k a b c d e = and_from _ _ (and_from _ _ (and_from _ _ (and_from _ _ (and_from _ _ a (not_from_false _ b)) (known features k.marks)) c) d) e
+class_is features k a b c d e f = and_from _ _ (and_from _ _ (and_from _ _ (and_from _ _ (and_from _ _ (and_from _ _ a (not_from_false _ b)) (known features k.marks)) c) d) e) f
 
--- what follows the marks of a class, and what follows its name
+-- what follows a class's constructor, the marks of a class, and its name
+abbrev tokens_behind_ctor : ClassTree → List Token → List Token
+tokens_behind_ctor k more = in_order spell_method k.methods (CloseBrace ∷ more)
+
+abbrev roles_behind_ctor : ClassTree → List Role → List Role
+roles_behind_ctor k rest = in_order roles_method k.methods (plain ∷ rest)
+
 abbrev tokens_behind_name : ClassTree → List Token → List Token
-tokens_behind_name k more = ExtendsWord ∷ (Id k.parent ∷ (OpenBrace ∷ in_order spell_field k.fields (spell_ctor k (CloseBrace ∷ more))))
+tokens_behind_name k more = ExtendsWord ∷ (Id k.parent ∷ (OpenBrace ∷ in_order spell_field k.fields (spell_ctor k (tokens_behind_ctor k more))))
 
 abbrev roles_behind_name : ClassTree → List Role → List Role
-roles_behind_name k rest = plain ∷ (used_name k.parent ∷ (plain ∷ in_order roles_field k.fields (roles_ctor k (plain ∷ rest))))
+roles_behind_name k rest = plain ∷ (used_name k.parent ∷ (plain ∷ in_order roles_field k.fields (roles_ctor k (roles_behind_ctor k rest))))
 
-class_kept : (features : List (List ℕ)) (t : Tally) (k : ClassTree) (rest : List Role) (more : List Token) → AreWithin t (roles_class k rest) → are_read (spell_class k more) ≡ true → ClassKept (length features) t (value_class features k) rest more
-class_kept features t k rest more w r =
+class_kept : (features : List (List ℕ)) (t : Tally) (k : ClassTree) → AreNone k.methods → (rest : List Role) (more : List Token) → AreWithin t (roles_class k rest) → are_read (spell_class k more) ≡ true → ClassKept (length features) t (value_class features k) rest more
+class_kept features t k none rest more w r =
     let m : MarksKept t (plain ∷ (class_name k.name ∷ roles_behind_name k rest)) (ClassWord ∷ (Id k.name ∷ tokens_behind_name k more)) = marks_kept t k.marks (plain ∷ (class_name k.name ∷ roles_behind_name k rest)) (ClassWord ∷ (Id k.name ∷ tokens_behind_name k more)) w r in
     let fits : ClassFits t k.name = class_fits t k.name m.within.1.0 in
-    let after : List Token = in_order spell_field k.fields (spell_ctor k (CloseBrace ∷ more)) in
+    let after : List Token = in_order spell_field k.fields (spell_ctor k (tokens_behind_ctor k more)) in
     let i : (is_identifier k.name ≡ true) × ((is_identifier k.parent && are_read after) ≡ true) = and_parts (is_identifier k.name) (is_identifier k.parent && are_read after) m.read in
     let j : (is_identifier k.parent ≡ true) × (are_read after ≡ true) = and_parts (is_identifier k.parent) (are_read after) i.1 in
-    let u : Tally = record t { marks = []; classes = t.classes ++ k.name ∷ []; fields = []; params = []; sends = 0; assigns = 0; size = t.size + 1 } in
-    let f : FieldsKept (length features) u (map (value_field features) k.fields) (roles_ctor k (plain ∷ rest)) (spell_ctor k (CloseBrace ∷ more)) = fields_kept features u k.fields (roles_ctor k (plain ∷ rest)) (spell_ctor k (CloseBrace ∷ more)) (omega arith) (omega (arith, fits.small)) m.within.1.1.1.1.1 j.1 in
-    let c : CtorKept (length features) u f.names (t.size + 1 + length (map (value_field features) k.fields)) (value_ctor features k) (plain ∷ rest) (CloseBrace ∷ more) = ctor_kept features u f.marks f.names (t.size + 1 + length (map (value_field features) k.fields)) k (plain ∷ rest) (CloseBrace ∷ more) f.small f.within f.read in
+    let u : Tally = record t { marks = []; classes = t.classes ++ k.name ∷ []; fields = []; methods = []; params = []; sends = 0; assigns = 0; nodes = 0; size = t.size + 1 } in
+    let f : FieldsKept (length features) u (map (value_field features) k.fields) (roles_ctor k (roles_behind_ctor k rest)) (spell_ctor k (tokens_behind_ctor k more)) = fields_kept features u k.fields (roles_ctor k (roles_behind_ctor k rest)) (spell_ctor k (tokens_behind_ctor k more)) (omega arith) (omega (arith, fits.small)) m.within.1.1.1.1.1 j.1 in
+    let c : CtorKept (length features) u f.names (t.size + 1 + length (map (value_field features) k.fields)) (value_ctor features k) (roles_behind_ctor k rest) (tokens_behind_ctor k more) = ctor_kept features u f.marks f.names (t.size + 1 + length (map (value_field features) k.fields)) k (roles_behind_ctor k rest) (tokens_behind_ctor k more) f.small f.within f.read in
+    let v : Tally = record u { marks = c.marks; fields = f.names; params = c.params; sends = c.sends; assigns = c.assigns; size = t.size + 1 + length (map (value_field features) k.fields) + ctor_size (value_ctor features k) } in
+    let d : MethodsKept (length features) v (map (value_method features) k.methods) (plain ∷ rest) (CloseBrace ∷ more) = methods_kept features v k.methods none (plain ∷ rest) (CloseBrace ∷ more) (omega arith) c.small c.within c.read in
     record {
-      marks = c.marks;
+      marks = d.marks;
       fields = f.names;
-      params = c.params;
+      methods = d.names;
+      params = d.params;
       sends = c.sends;
       assigns = c.assigns;
+      nodes = d.nodes;
       new = fits.new;
       few = fits.few;
-      is = class_is features k (short k.name i.0 fits.length_fits) fits.no_object (used_short k.parent t j.0 m.within.1.1.1.0) (and_from _ _ (and_from _ _ (le-leb (length (map (value_field features) k.fields)) most_fields (omega (arith, f.few))) f.new) f.each) c.is;
-      small = omega (arith, c.small);
-      within = sized (record u { marks = c.marks; fields = f.names; params = c.params; sends = c.sends; assigns = c.assigns }) (t.size + 1 + length (map (value_field features) k.fields) + ctor_size (value_ctor features k)) (t.size + class_size (value_class features k)) rest (omega arith) c.within.1;
-      read = c.read;
+      is = class_is features k (short k.name i.0 fits.length_fits) fits.no_object (used_short k.parent t j.0 m.within.1.1.1.0) (and_from _ _ (and_from _ _ (le-leb (length (map (value_field features) k.fields)) most_fields (omega (arith, f.few))) f.new) f.each) c.is (and_from _ _ (and_from _ _ (le-leb (length (map (value_method features) k.methods)) most_methods (omega (arith, d.few))) d.new) d.each);
+      small = omega (arith, d.small);
+      within = sized (record v { marks = d.marks; methods = d.names; params = d.params; nodes = d.nodes }) (v.size + sum_by method_size (map (value_method features) k.methods)) (t.size + class_size (value_class features k)) rest (omega arith) d.within.1;
+      read = d.read;
     }
 
 -- what is known of all classes
@@ -413,13 +455,13 @@ record ClassesKept (n : ℕ) (t : Tally) (classes : List Class) : Type 0 where
   each : list_all (is_class n) classes ≡ true
   small : t.size + size classes ≤ most_size
 
-classes_kept : (features : List (List ℕ)) (t : Tally) (ks : List ClassTree) → length t.classes ≤ most_classes → t.size ≤ most_size → AreWithin t (in_order roles_class ks []) → are_read (in_order spell_class ks []) ≡ true → ClassesKept (length features) t (map (value_class features) ks)
-classes_kept features t [] few small w r = record { few = omega arith; new = refl; each = refl; small = omega arith }
-classes_kept features t (k ∷ ks) few small w r =
-    let c : ClassKept (length features) t (value_class features k) (in_order roles_class ks []) (in_order spell_class ks []) = class_kept features t k (in_order roles_class ks []) (in_order spell_class ks []) w r in
-    let u : Tally = record { features = t.features; marks = c.marks; classes = t.classes ++ k.name ∷ []; fields = c.fields; params = c.params; sends = c.sends; assigns = c.assigns; size = t.size + class_size (value_class features k) } in
+classes_kept : (features : List (List ℕ)) (t : Tally) (ks : List ClassTree) → HaveNoMethods ks → length t.classes ≤ most_classes → t.size ≤ most_size → AreWithin t (in_order roles_class ks []) → are_read (in_order spell_class ks []) ≡ true → ClassesKept (length features) t (map (value_class features) ks)
+classes_kept features t [] none few small w r = record { few = omega arith; new = refl; each = refl; small = omega arith }
+classes_kept features t (k ∷ ks) none few small w r =
+    let c : ClassKept (length features) t (value_class features k) (in_order roles_class ks []) (in_order spell_class ks []) = class_kept features t k none.0 (in_order roles_class ks []) (in_order spell_class ks []) w r in
+    let u : Tally = record t { marks = c.marks; classes = t.classes ++ k.name ∷ []; fields = c.fields; methods = c.methods; params = c.params; sends = c.sends; assigns = c.assigns; nodes = c.nodes; size = t.size + class_size (value_class features k) } in
     let sum : size (map (value_class features) (k ∷ ks)) ≡ class_size (value_class features k) + size (map (value_class features) ks) = sum_by-cons class_size (value_class features k) (map (value_class features) ks) in
-    let all : ClassesKept (length features) u (map (value_class features) ks) = classes_kept features u ks (omega (arith, length_push t.classes k.name, c.few)) c.small c.within c.read in
+    let all : ClassesKept (length features) u (map (value_class features) ks) = classes_kept features u ks none.1 (omega (arith, length_push t.classes k.name, c.few)) c.small c.within c.read in
     record {
       few = omega (arith, length_push t.classes k.name, all.few);
       new = and_from _ _ (not_from_false _ c.new) all.new;
@@ -427,9 +469,61 @@ classes_kept features t (k ∷ ks) few small w r =
       small = omega (arith, all.small);
     }
 
+-- ---- constraints
+
+-- what is known behind the constraints, over so many features
+record ConstraintsKept (n : ℕ) (t : Tally) (constraints : List Formula) (rest : List Role) (more : List Token) : Type 0 where
+  marks : List (List ℕ)
+  few : t.formula_nodes + sum_by formula_node_count constraints ≤ most_formula_nodes
+  each : list_all (is_constraint n) constraints ≡ true
+  within : AreWithin (record t { marks = marks; formula_nodes = t.formula_nodes + sum_by formula_node_count constraints }) rest
+  read : are_read more ≡ true
+
+-- the tokens behind others are read where all are
+read_behind : (ts us : List Token) → are_read (ts ++ us) ≡ true → are_read us ≡ true
+read_behind [] us r = r
+read_behind (t ∷ ts) us r = read_behind ts us (and_parts (is_read t) (are_read (ts ++ us)) r).1
+
+constraints_kept : (features : List (List ℕ)) (t : Tally) (xs : List IffTree) (rest : List Role) (more : List Token) → t.formula_nodes ≤ most_formula_nodes → AreWithin t (in_order roles_constraint xs rest) → are_read (in_order spell_constraint xs more) ≡ true → ConstraintsKept (length features) t (map (value_iff features) xs) rest more
+constraints_kept features t [] rest more few w r = record { marks = t.marks; few = omega arith; each = refl; within = subst (λ n. AreWithin (record t { formula_nodes = n }) rest) (omega arith) w; read = r }
+constraints_kept features t (x ∷ xs) rest more few (word, w) r =
+    let after : List Token = in_order spell_constraint xs more in
+    let others : List Role = in_order roles_constraint xs rest in
+    let u : Tally = record t { marks = [] } in
+    let b : Behind features u x (plain ∷ others) = behind_formula features u 0 x (plain ∷ others) few w in
+    let n : ℕ = formula_node_count (value_iff features x) in
+    let v : Tally = record u { marks = b.marks; formula_nodes = u.formula_nodes + n } in
+    let read : are_read (Semicolon ∷ after) ≡ true = read_behind (spell_iff x []) (Semicolon ∷ after) (subst (λ z. are_read z ≡ true) (sym (spell_iff_append x [] (Semicolon ∷ after))) (and_parts (is_identifier constraint_word) (are_read (spell_iff x (Semicolon ∷ after))) r).1) in
+    let k : ConstraintsKept (length features) v (map (value_iff features) xs) rest more = constraints_kept features v xs rest more b.few b.within.1 read in
+    let sum : sum_by formula_node_count (map (value_iff features) (x ∷ xs)) ≡ n + sum_by formula_node_count (map (value_iff features) xs) = sum_by-cons formula_node_count (value_iff features x) (map (value_iff features) xs) in
+    let same : v.formula_nodes + sum_by formula_node_count (map (value_iff features) xs) ≡ t.formula_nodes + sum_by formula_node_count (map (value_iff features) (x ∷ xs)) = omega (arith, sum) in
+    record {
+      marks = k.marks;
+      few = omega (arith, k.few, same);
+      each = and_from _ _ (constraint_kept features u x (plain ∷ others) w) k.each;
+      within = subst (λ n. AreWithin (record t { marks = k.marks; formula_nodes = n }) rest) same k.within;
+      read = k.read;
+    }
+
 -- a tree whose tokens break nothing stands for what a project's type keeps
-pub kept : (tree : Tree) → AreWithin nothing (roles tree []) → are_read (spell tree []) ≡ true → IsProject (value tree)
-kept tree w r =
-    let line : FeaturesKept nothing tree.features (in_order roles_class tree.classes []) (in_order spell_class tree.classes []) = line_kept tree.features (in_order roles_class tree.classes []) (in_order spell_class tree.classes []) w r in
-    let all : ClassesKept (length tree.features) (record nothing { features = line.names }) (map (value_class tree.features) tree.classes) = classes_kept tree.features (record nothing { features = line.names }) tree.classes (omega arith) (omega arith) line.within line.read in
-    record { few_features = le-leb _ _ (omega (arith, line.few)); features_named = line.each; features_distinct = line.new; few_classes = le-leb _ _ (omega (arith, all.few)); classes_distinct = all.new; each_class = all.each; fits = le-leb _ _ (omega (arith, all.small)) }
+pub kept : (x : BuiltTree) → AreWithin nothing (roles x.tree []) → are_read (spell x.tree []) ≡ true → IsProject (value x.tree)
+kept x w r =
+    let features = x.tree.features in
+    let classes_roles : List Role = in_order roles_class x.tree.classes [] in
+    let classes_tokens : List Token = in_order spell_class x.tree.classes [] in
+    let line : FeaturesKept nothing features (in_order roles_constraint x.tree.constraints classes_roles) (in_order spell_constraint x.tree.constraints classes_tokens) = line_kept features (in_order roles_constraint x.tree.constraints classes_roles) (in_order spell_constraint x.tree.constraints classes_tokens) w r in
+    let t : Tally = record nothing { features = line.names } in
+    let some : ConstraintsKept (length features) t (map (value_iff features) x.tree.constraints) classes_roles classes_tokens = constraints_kept features t x.tree.constraints classes_roles classes_tokens (omega arith) line.within line.read in
+    let u : Tally = record t { marks = some.marks; formula_nodes = t.formula_nodes + sum_by formula_node_count (map (value_iff features) x.tree.constraints) } in
+    let all : ClassesKept (length features) u (map (value_class features) x.tree.classes) = classes_kept features u x.tree.classes x.no_methods (omega arith) (omega arith) some.within some.read in
+    record {
+      few_features = le-leb _ _ (omega (arith, line.few));
+      features_named = line.each;
+      features_distinct = line.new;
+      few_formula_nodes = le-leb _ _ (omega (arith, some.few));
+      each_constraint = some.each;
+      few_classes = le-leb _ _ (omega (arith, all.few));
+      classes_distinct = all.new;
+      each_class = all.each;
+      fits = le-leb _ _ (omega (arith, all.small));
+    }

@@ -1,59 +1,36 @@
--- The laws of the machine: what it has read begins a text; where it is stuck, no text goes on; and how a misplaced token is named.
-use Rattle.std.proofs.Common.{◌≡◌, ℕ, suc, Bool, true, false, ◌&&◌, ◌||◌, if◌then◌else◌, List, [], ◌∷◌, ◌++◌, length, map, bit_or, codes, Option, Some, None, refl, sym, ◌∙◌, ap, subst, arith}
+-- The laws of the machine: it reads the texts of its language and no others, and each state can be completed.
+use Rattle.std.proofs.Common.{◌≡◌, ℕ, Bool, true, false, ◌&&◌, ◌||◌, if◌then◌else◌, List, [], ◌∷◌, ◌++◌, bit_or, codes, Option, Some, None, refl, sym, ◌∙◌, ap, subst}
+use Rattle.std.proofs.lemmas.Option.{none-some}
 use Rattle.std.specs.Str.{chars, bytes_eq}
 use Rattle.cfj_model.specs.Names.{is_identifier, is_reserved}
 use Rattle.cfj_model.proofs.Identifiers.{features_is_identifier}
-use Rattle.cfj_model.specs.Tokens.{Token, Id, ClassWord, ExtendsWord, SuperWord, ThisWord, OpenBrace, CloseBrace, OpenParen, CloseParen, Semicolon, Comma, Dot, Equals, At, End, is_reserved_word}
-use Rattle.cfj_model.specs.Grammar.{ClassTree, Tree, features_word, spell, color_of, value_class}
-use Rattle.cfj_model.specs.Roles.{Role, used_name, plain, roles}
-use Rattle.cfj_model.specs.declared.fault.FaultKind.TheVariants as fault
-use Rattle.cfj_model.specs.Faults.{Begins, CanGoOn, IsMisplaced, reserved, other, no_name}
+use Rattle.fj_parser.proofs.Words.{constraint_is_identifier}
+use Rattle.cfj_model.specs.Tokens.{Token, Id, TrueWord, FalseWord, Bang, Ampersand, Bar, Arrow, DoubleArrow, ClassWord, ExtendsWord, SuperWord, ThisWord, OpenBrace, CloseBrace, OpenParen, CloseParen, Semicolon, Comma, Dot, Equals, At, End}
+use Rattle.cfj_model.specs.declared.formula.Formula.{Formula}
+use Rattle.cfj_model.specs.FormulaGrammar.{IffTree}
+use Rattle.cfj_model.specs.Grammar.{ClassTree, constraint_word, features_word, spell}
+use Rattle.cfj_model.specs.Marks.{color_of}
+use Rattle.cfj_model.specs.Roles.{Role, used_name, plain, are_settled}
+use Rattle.fj_symbols.specs.Views.{is_read, are_read}
+use Rattle.fj_parser.specs.Built.{BuiltTree, built}
+use Rattle.fj_parser.specs.Laws.{alike, Closes, GoesByName, Reads}
 use Rattle.fj_parser.specs.declared.mode.Node.{Node}
 use Rattle.fj_parser.specs.declared.mode.Node.TheVariants as node
 use Rattle.fj_parser.specs.declared.mode.Mode.{Mode}
-use Rattle.fj_parser.specs.declared.mode.Mode.TheVariants.{Begin, AfterFeatures, AfterFeature, AfterFeatureComma, Start, AfterAt, AfterMark, AfterMarkedType, AfterClass, AfterClassName, AfterExtends, AfterParent, InMembers, AfterType, AfterFieldName, InParams, AfterParamComma, AfterParamType, AfterParam, AfterParams, InBody, AfterSuper, InSends, AfterSendComma, AfterSend, AfterSends, InAssigns, AfterThis, AfterThisDot, AfterAssigned, AfterEquals, AfterSecondName, AfterCtor, AtEnd}
-use Rattle.fj_parser.specs.Machine.{unnamed, State, behind, start, step_in, step, role, with_field, takes_name, misplaced_kind, Run, with_role, then_run, run, is_read, are_read}
-pub use Rattle.fj_parser.proofs.Complete.{text_runs, classes_run}
-use Rattle.fj_parser.proofs.Complete.{same_name, mode_behind}
-use Rattle.fj_parser.proofs.Sound.{Tail, no_end, an_end, is_whole_in, is_whole, text_of}
-
--- ---- a run in two parts
-
--- a run over more tokens
-abbrev pub on_from : List Token → Run → Run
-on_from b (None, rs) = (None, rs)
-on_from b (Some s, rs) = ((run b s).0, rs ++ (run b s).1)
-
--- a role before a run goes on with it
-role_on : (r : Role) (b : List Token) (p : Run) → with_role r (on_from b p) ≡ on_from b (with_role r p)
-role_on r b (None, rs) = refl
-role_on r b (Some s, rs) = refl
-
--- the run of two lists of tokens is that of the first, gone on with
-pub run_append : (a b : List Token) (s : State) → run (a ++ b) s ≡ on_from b (run a s)
-unfolding run
-run_append [] b s = refl
-run_append (t ∷ a) b s = go (λ n. run_append a b n) (role s t) (step s t)
-  where
-    go : ((n : State) → run (a ++ b) n ≡ on_from b (run a n)) → (r : Role) (o : Option State) → then_run (run (a ++ b)) r o ≡ on_from b (then_run (run a) r o)
-    go ih r None = refl
-    go ih r (Some n) = ap (with_role r) (ih n) ∙ role_on r b (run a n)
-
--- one more token
-pub run_more : (front : List Token) (t : Token) (s n : State) (rs : List Role) → run front start ≡ (Some s, rs) → step s t ≡ Some n → run (front ++ t ∷ []) start ≡ (Some n, rs ++ role s t ∷ [])
-unfolding run
-run_more front t s n rs h goes =
-    run_append front (t ∷ []) start ∙ ap (on_from (t ∷ [])) h ∙ ap (λ o. ((then_run (run []) (role s t) o).0, rs ++ (then_run (run []) (role s t) o).1)) goes
-
--- a run that goes on gives each token a role
-run_long : (ts : List Token) (s n : State) → (run ts s).0 ≡ Some n → length (run ts s).1 ≡ length ts
-unfolding run
-run_long [] s n h = refl
-run_long (t ∷ ts) s n h = go (λ x e. run_long ts x n e) (role s t) (step s t) h
-  where
-    go : ((x : State) → (run ts x).0 ≡ Some n → length (run ts x).1 ≡ length ts) → (r : Role) (o : Option State) → (then_run (run ts) r o).0 ≡ Some n → length (then_run (run ts) r o).1 ≡ suc (length ts)
-    go ih r None h = absurd (let no : ⊥ = cc h in no)
-    go ih r (Some x) h = ap suc (ih x h)
+use Rattle.fj_parser.specs.declared.mode.Mode.TheVariants.{Begin, AfterFeatures, AfterFeature, AfterFeatureComma, Start, InConstraint, BetweenClasses, AfterAt, AfterMark, AfterMarkedType, AfterClass, AfterClassName, AfterExtends, AfterParent, InMembers, AfterType, AfterFieldName, InParams, AfterParamComma, AfterParamType, AfterParam, AfterParams, InBody, AfterSuper, InSends, AfterSendComma, AfterSend, AfterSends, InAssigns, AfterThis, AfterThisDot, AfterAssigned, AfterEquals, AfterSecondName, AfterCtor, AtEnd}
+use Rattle.formula_reader.specs.Machine as formula
+use Rattle.formula_reader.specs.declared.mode.Mode as formula_mode
+use Rattle.formula_reader.specs.declared.mode.Mode.TheVariants.{Want, After, Done}
+use Rattle.formula_reader.proofs.Law.{completes}
+use Rattle.formula_reader.proofs.Law as formula_law
+use Rattle.formula_reader.proofs.Leads.{run_leads}
+use Rattle.fj_parser.specs.Machine.{unnamed, State, start, after_formula, in_formula, opens_constraint, step_in, step, role, role_in, token_role, with_field, takes_name_in, reader, run, stands_for}
+use Rattle.fj_parser.specs.Readers.{Run, then_run, run_of}
+use Rattle.fj_parser.proofs.Complete.{text_runs, classes_run, ended}
+use Rattle.fj_parser.proofs.Complete.{same_name, mode_behind, formula_runs}
+use Rattle.fj_parser.proofs.Readers.{on_from, run_append}
+use Rattle.fj_parser.proofs.Sound.{Tail, no_end, an_end, is_whole_in, is_whole, none_undone, text_of}
+use Rattle.fj_parser.proofs.Spelled.{grammar_is_plain}
 
 -- ---- every state can be completed
 
@@ -63,7 +40,7 @@ Reaches m None = ⊥
 Reaches m (Some n) = n.mode ≡ m
 
 -- a test that holds lets the run go on
-let_through : (b : Bool) (f : State → Run) (r : Role) (n : State) → b ≡ true → Reaches AtEnd (f n).0 → Reaches AtEnd (then_run f r (if b then Some n else None)).0
+let_through : (b : Bool) (f : State → Run State) (r : Role) (n : State) → b ≡ true → Reaches AtEnd (f n).0 → Reaches AtEnd (then_run f (r ∷ []) (if b then Some n else None)).0
 let_through true f r n e h = h
 let_through false f r n e h = absurd (let no : ⊥ = cc e in no)
 
@@ -105,6 +82,8 @@ closing AfterFeatures s = Id [] ∷ (Semicolon ∷ (End ∷ []))
 closing AfterFeature s = Semicolon ∷ (End ∷ [])
 closing AfterFeatureComma s = Id [] ∷ (Semicolon ∷ (End ∷ []))
 closing Start s = End ∷ []
+closing InConstraint s = []
+closing BetweenClasses s = End ∷ []
 closing (AfterAt n) s = Id [] ∷ marked_end n s.name
 closing (AfterMark n) s = marked_end n s.name
 closing AfterMarkedType s = Id [] ∷ (Semicolon ∷ ctor_end s.name)
@@ -137,39 +116,70 @@ closing AtEnd s = []
 
 -- a class with no constructor yet is completed by one of its name
 ctor_closes : (s : State) → Reaches AtEnd (run (ctor_end s.name) (record s { mode = InMembers })).0
-unfolding run ctor_end params_end body_end sends_end assigns_end
+unfolding run_of ctor_end params_end body_end sends_end assigns_end
 ctor_closes s = let_through (bytes_eq s.name s.name) (run params_end) plain (record s { mode = InParams; of = unnamed }) (same_name s.name) refl
 
 -- an assignment is completed by the same name again
 second_closes : (s : State) → Reaches AtEnd (run (second_end s.last) (record s { mode = AfterEquals })).0
-unfolding run second_end assigns_end
+unfolding run_of second_end assigns_end
 second_closes s = let_through (bytes_eq s.last s.last) (run (Semicolon ∷ assigns_end)) (used_name s.last) (record s { mode = AfterSecondName; last = unnamed }) (same_name s.last) refl
 
 -- behind marks, a state is completed by their node and what follows it
 marked_closes : (n : Node) (s : State) → Reaches AtEnd (run (marked_end n s.name) (record s { mode = AfterMark n })).0
-unfolding run marked_end parent_end ctor_end params_end body_end sends_end second_end assigns_end
+unfolding run_of marked_end parent_end ctor_end params_end body_end sends_end second_end assigns_end
 marked_closes node.Class s = refl
 marked_closes node.Member s = ctor_closes (with_field (record s { of = []; last = [] }))
 marked_closes node.Param s = refl
 marked_closes node.Send s = refl
 marked_closes node.Assign s = refl
 
+-- the modes outside of a formula
+abbrev is_declaring : Mode → Bool
+is_declaring InConstraint = false
+is_declaring _ = true
+
 -- each state is completed by its closing
-closes : (m : Mode) (s : State) → Reaches AtEnd (run (closing m s) (record s { mode = m })).0
-unfolding run closing parent_end ctor_end params_end body_end sends_end second_end assigns_end
-closes (AfterAt n) s = marked_closes n (record s { colors = bit_or s.colors (color_of s.features []) })
-closes (AfterMark n) s = marked_closes n s
-closes AfterMarkedType s = ctor_closes (with_field (record s { last = [] }))
-closes AfterClass s = refl
-closes AfterClassName s = ctor_closes (record s { parent = [] })
-closes AfterExtends s = ctor_closes (record s { parent = [] })
-closes AfterParent s = ctor_closes s
-closes InMembers s = ctor_closes s
-closes AfterType s = ctor_closes (with_field (record s { last = [] }))
-closes AfterFieldName s = ctor_closes (with_field s)
-closes AfterAssigned s = second_closes s
-closes AfterEquals s = second_closes s
-closes _ s = refl
+closes : (m : Mode) (s : State) → is_declaring m ≡ true → Reaches AtEnd (run (closing m s) (record s { mode = m })).0
+unfolding run_of closing parent_end ctor_end params_end body_end sends_end second_end assigns_end
+closes (AfterAt n) s e = marked_closes n (record s { colors = bit_or s.colors (color_of s.features []) })
+closes (AfterMark n) s e = marked_closes n s
+closes AfterMarkedType s e = ctor_closes (with_field (record s { last = [] }))
+closes AfterClass s e = refl
+closes AfterClassName s e = ctor_closes (record s { parent = [] })
+closes AfterExtends s e = ctor_closes (record s { parent = [] })
+closes AfterParent s e = ctor_closes s
+closes InMembers s e = ctor_closes s
+closes AfterType s e = ctor_closes (with_field (record s { last = [] }))
+closes AfterFieldName s e = ctor_closes (with_field s)
+closes AfterAssigned s e = second_closes s
+closes AfterEquals s e = second_closes s
+closes InConstraint s e = absurd (let no : ⊥ = cc e in no)
+closes _ s e = refl
+
+-- tokens that lead from a state to the end
+record Ending (s : State) : Type 0 where
+  more : List Token
+  reaches : Reaches AtEnd (run more s).0
+
+-- a formula that isn't whole is completed, and then the text
+formula_closes : (s : State) → formula.is_done s.formula ≡ false → Ending (record s { mode = InConstraint })
+unfolding run_of
+formula_closes s undone =
+    let c = completes s.features s.formula undone in
+    let l = run_leads s.features c.more s.formula c.others c.value undone c.goes in
+    record { more = c.more ++ End ∷ []; reaches = subst (λ (p : Run State). Reaches AtEnd p.0) (sym (formula_runs s c.more s.formula c.others c.value l (End ∷ []))) refl }
+
+-- each state is completed, where the formula in hand isn't whole
+ending : (m : Mode) (s : State) → formula.is_done s.formula ≡ false → Ending (record s { mode = m })
+ending m s undone = go (is_declaring m) refl
+  where
+    hosted : (m : Mode) → is_declaring m ≡ false → Ending (record s { mode = m })
+    hosted InConstraint e = formula_closes s undone
+    hosted _ e = absurd (let no : ⊥ = cc e in no)
+
+    go : (b : Bool) → is_declaring m ≡ b → Ending (record s { mode = m })
+    go true e = record { more = closing m s; reaches = closes m s e }
+    go false e = hosted m e
 
 -- ---- what is read to the end is a text
 
@@ -179,129 +189,67 @@ reach_stops m None e h = absurd h
 reach_stops m (Some n) e h = ap is_whole_in h ∙ e
 
 -- behind the classes the end is still to be read
-not_at_end : {A : Type 0} (fs : List (List ℕ)) (ks : List ClassTree) → mode_behind fs ks ≡ AtEnd → A
-not_at_end [] [] e = absurd (let no : ⊥ = cc e in no)
-not_at_end [] (k ∷ ks) e = absurd (let no : ⊥ = cc e in no)
-not_at_end (f ∷ fs) ks e = absurd (let no : ⊥ = cc e in no)
+not_at_end : {A : Type 0} (fs : List (List ℕ)) (xs : List IffTree) (ks : List ClassTree) → mode_behind fs xs ks ≡ AtEnd → A
+not_at_end [] [] [] e = absurd (let no : ⊥ = cc e in no)
+not_at_end (f ∷ fs) xs [] e = absurd (let no : ⊥ = cc e in no)
+not_at_end [] (x ∷ xs) [] e = absurd (let no : ⊥ = cc e in no)
+not_at_end fs xs (k ∷ ks) e = absurd (let no : ⊥ = cc e in no)
 
 -- tokens that lead to the end
-closed_text : (ts : List Token) → Reaches AtEnd (run ts start).0 → (tree : Tree) × (ts ≡ spell tree (End ∷ []))
+closed_text : (ts : List Token) → Reaches AtEnd (run ts start).0 → (x : BuiltTree) × (ts ≡ spell x.tree (End ∷ []))
 closed_text ts h = let t = text_of ts (reach_stops AtEnd (run ts start).0 refl h) in go t.tree t.rest t.tail t.spelled
   where
-    go : (tree : Tree) (rest : List Token) → Tail rest → ts ≡ spell tree rest → (tree : Tree) × (ts ≡ spell tree (End ∷ []))
-    go tree _ an_end is = (tree, is)
-    go tree _ no_end is =
-        let e : mode_behind tree.features tree.classes ≡ AtEnd = subst (λ (p : Run). Reaches AtEnd p.0) (ap (λ w. run w start) is ∙ classes_run tree) h in
-        not_at_end tree.features tree.classes e
+    go : (x : BuiltTree) (rest : List Token) → Tail rest → ts ≡ spell x.tree rest → (x : BuiltTree) × (ts ≡ spell x.tree (End ∷ []))
+    go x _ an_end is = (x, is)
+    go x _ no_end is =
+        let e : mode_behind x.tree.features x.tree.constraints x.tree.classes ≡ AtEnd = subst (λ (p : Run State). Reaches AtEnd p.0) (ap (λ w. run w start) is ∙ classes_run x) h in
+        not_at_end x.tree.features x.tree.constraints x.tree.classes e
 
 -- a text that is read so far may end in this mode
 abbrev may_end : Mode → Bool
 may_end Begin = true
 may_end Start = true
+may_end BetweenClasses = true
 may_end _ = false
 
 -- and may stop there
 end_stops : (m : Mode) → may_end m ≡ true → is_whole_in m ≡ true
 end_stops Begin e = refl
 end_stops Start e = refl
+end_stops BetweenClasses e = refl
 end_stops _ e = absurd (let no : ⊥ = cc e in no)
 
 -- tokens that lead to where the end may follow
-open_text : (ts : List Token) (m : Mode) → may_end m ≡ true → Reaches m (run ts start).0 → (tree : Tree) × (ts ≡ spell tree [])
+open_text : (ts : List Token) (m : Mode) → may_end m ≡ true → Reaches m (run ts start).0 → (x : BuiltTree) × (ts ≡ spell x.tree [])
 open_text ts m e h = let t = text_of ts (reach_stops m (run ts start).0 (end_stops m e) h) in go t.tree t.rest t.tail t.spelled
   where
-    go : (tree : Tree) (rest : List Token) → Tail rest → ts ≡ spell tree rest → (tree : Tree) × (ts ≡ spell tree [])
-    go tree _ no_end is = (tree, is)
-    go tree _ an_end is =
-        let at_end : AtEnd ≡ m = subst (λ (p : Run). Reaches m p.0) (ap (λ w. run w start) is ∙ text_runs tree) h in
+    go : (x : BuiltTree) (rest : List Token) → Tail rest → ts ≡ spell x.tree rest → (x : BuiltTree) × (ts ≡ spell x.tree [])
+    go x _ no_end is = (x, is)
+    go x _ an_end is =
+        let at_end : AtEnd ≡ m = subst (λ (p : Run State). Reaches m p.0) (ap (λ w. run w start) is ∙ text_runs x) h in
         let no : false ≡ true = ap may_end at_end ∙ e in
         absurd (let false_is_true : ⊥ = cc no in false_is_true)
+
+-- a formula takes no end
+formula_refuses_end : (fs : List (List ℕ)) (f : formula.State) → formula.step fs f End ≡ None
+formula_refuses_end fs f = go f.mode
+  where
+    go : (m : formula_mode.Mode) → formula.step_in fs f.frames m End ≡ None
+    go Want = refl
+    go (After y) = refl
+    go (Done y) = refl
+
+no_end_in_formula : (s n : State) → step_in InConstraint s End ≡ Some n → ⊥
+no_end_in_formula s n h = none-some n (ap (in_formula s) (sym (formula_refuses_end s.features s.formula)) ∙ h)
 
 -- only there does the machine take the end
 end_at_open : (m : Mode) (s n : State) → step_in m s End ≡ Some n → may_end m ≡ true
 end_at_open Begin s n h = refl
 end_at_open Start s n h = refl
+end_at_open BetweenClasses s n h = refl
+end_at_open InConstraint s n h = absurd (no_end_in_formula s n h)
 end_at_open (AfterMark node.Class) s n h = absurd (let no : ⊥ = cc h in no)
 end_at_open _ s n h = absurd (let no : ⊥ = cc h in no)
-
--- what is read to its end is the text of a tree
-pub record WholeText (front : List Token) (s : State) (rs : List Role) : Type 0 where
-  pub tree : Tree
-  pub spelled : front ≡ spell tree []
-  pub in_roles : rs ≡ roles tree []
-  pub features : s.features ≡ tree.features
-  pub valued : s.classes ≡ map (value_class tree.features) tree.classes
-
--- states that are equal behind `Some`
-some_same : (s n : State) → Some s ≡ Some n → s ≡ n
-some_same s n e = cc
-
--- a state to which the tokens of a tree lead holds what the tree stands for
-whole_text : (front : List Token) (s z : State) (rs : List Role) (tree : Tree) → front ≡ spell tree [] → run front start ≡ (Some s, rs) → run front start ≡ (Some z, roles tree []) → z.features ≡ tree.features → z.classes ≡ map (value_class tree.features) tree.classes → WholeText front s rs
-whole_text front s z rs tree is h g features classes =
-    let reached : Some s ≡ Some z = ap (λ (p : Run). p.0) (sym h ∙ g) in
-    let same : s ≡ z = some_same s z reached in
-    record { tree = tree; spelled = is; in_roles = ap (λ (p : Run). p.1) (sym h ∙ g); features = ap (λ (x : State). x.features) same ∙ features; valued = ap (λ (x : State). x.classes) same ∙ classes }
-
--- where the end may follow, the tokens so far are the text of a tree
-pub text_read : (front : List Token) (s n : State) (rs : List Role) → run front start ≡ (Some s, rs) → step s End ≡ Some n → WholeText front s rs
-text_read front s n rs h ends =
-    let opens : Reaches s.mode (run front start).0 = subst (λ (p : Run). Reaches s.mode p.0) (sym h) refl in
-    let t = open_text front s.mode (end_at_open s.mode s n ends) opens in
-    whole_text front s _ rs t.0 t.1 h (ap (λ w. run w start) t.1 ∙ classes_run t.0) refl refl
-
--- ---- what is read begins a text
-
--- tokens with which others run to the end of a text begin that text, in the first of its roles
-begins_of : (front more : List Token) (rs others : List Role) (o : Option State) (tree : Tree) → length rs ≡ length front → front ++ more ≡ spell tree (End ∷ []) → run (front ++ more) start ≡ (o, rs ++ others) → Begins front rs
-begins_of front more rs others o tree each is h =
-    record { tree = tree; more = more; others = others; text = sym is; in_roles = ap (λ (p : Run). p.1) (sym (text_runs tree) ∙ ap (λ w. run w start) (sym is) ∙ h); each = each }
-
--- what the machine has read begins a text, in the roles that it gave
-pub reads_begin : (front : List Token) (s : State) (rs : List Role) → run front start ≡ (Some s, rs) → Begins front rs
-reads_begin front s rs h =
-    let more = closing s.mode s in
-    let all : run (front ++ more) start ≡ ((run more s).0, rs ++ (run more s).1) = run_append front more start ∙ ap (on_from more) h in
-    let t = closed_text (front ++ more) (subst (λ (p : Run). Reaches AtEnd p.0) (sym all) (closes s.mode s)) in
-    let each : length rs ≡ length front = ap (λ (p : Run). length p.1) (sym h) ∙ run_long front start s (ap (λ (p : Run). p.0) h) in
-    begins_of front more rs (run more s).1 (run more s).0 t.0 each t.1 all
-
--- two lists of roles that begin one list, with the same length
-same_front : (a b x y : List Role) → length a ≡ length b → a ++ x ≡ b ++ y → a ≡ b
-same_front [] [] x y n e = refl
-same_front [] (r ∷ b) x y n e = absurd (omega arith)
-same_front (q ∷ a) [] x y n e = absurd (omega arith)
-same_front (q ∷ a) (r ∷ b) x y n e =
-    let first : q ≡ r = cc e in
-    let others : a ++ x ≡ b ++ y = cc e in
-    let rest : a ≡ b = same_front a b x y (omega arith) others in
-    cc
-
--- and what begins a text is read, in its roles
-pub begins_reads : (front : List Token) (rs : List Role) → Begins front rs → (s : State) × (run front start ≡ (Some s, rs))
-begins_reads front rs b = go (run front start) refl (sym (run_append front b.more start) ∙ ap (λ w. run w start) (sym b.text) ∙ text_runs b.tree)
-  where
-    go : (p : Run) → run front start ≡ p → on_from b.more p ≡ (Some (record (behind b.tree.features (map (value_class b.tree.features) b.tree.classes)) { mode = AtEnd }), roles b.tree (plain ∷ [])) → (s : State) × (run front start ≡ (Some s, rs))
-    go (None, qs) e whole =
-        let o : None ≡ Some (record (behind b.tree.features (map (value_class b.tree.features) b.tree.classes)) { mode = AtEnd }) = ap (λ (p : Run). p.0) whole in
-        absurd (let no : ⊥ = cc o in no)
-    go (Some s, qs) e whole =
-        let long : length qs ≡ length front = ap (λ (p : Run). length p.1) (sym e) ∙ run_long front start s (ap (λ (p : Run). p.0) e) in
-        let same : qs ≡ rs = same_front qs rs (run b.more s).1 b.others (long ∙ sym b.each) (ap (λ (p : Run). p.1) whole ∙ b.in_roles) in
-        (s, e ∙ ap (λ x. (Some s, x)) same)
-
--- ---- where the machine is stuck, no text goes on
-
--- with a token that the machine refuses, no text begins so
-pub cannot_go_on : (front : List Token) (t : Token) (s : State) (rs : List Role) → run front start ≡ (Some s, rs) → step s t ≡ None → CanGoOn (front ++ t ∷ []) → ⊥
-unfolding run
-cannot_go_on front t s rs h stuck g =
-    let b = g.1 in
-    let e : run ((front ++ t ∷ []) ++ b.more) start ≡ on_from b.more (on_from (t ∷ []) (Some s, rs)) =
-    run_append (front ++ t ∷ []) b.more start ∙ ap (on_from b.more) (run_append front (t ∷ []) start ∙ ap (on_from (t ∷ [])) h) in
-    let f : on_from b.more (on_from (t ∷ []) (Some s, rs)) ≡ (None, rs ++ []) = ap (λ o. on_from b.more ((then_run (run []) (role s t) o).0, rs ++ (then_run (run []) (role s t) o).1)) stuck in
-    let o : Some (record (behind b.tree.features (map (value_class b.tree.features) b.tree.classes)) { mode = AtEnd }) ≡ None = ap (λ (p : Run). p.0) (sym (text_runs b.tree) ∙ ap (λ w. run w start) b.text ∙ e ∙ f) in
-    let no : ⊥ = cc o in no
 
 -- ---- how a misplaced token is named
 
@@ -335,9 +283,22 @@ kept_if : (b : Bool) (n : State) → Kept n.mode n → KeptIn (if b then Some n 
 kept_if true n k = k
 kept_if false n k = tt
 
+kept_either : (b : Bool) (n : State) (o : Option State) → Kept n.mode n → KeptIn o → KeptIn (if b then Some n else o)
+kept_either true n o k j = k
+kept_either false n o k j = j
+
+-- behind a token of a formula nothing is assigned
+kept_formula : (s : State) → s.mode ≡ InConstraint → (o : Option formula.State) → KeptIn (in_formula s o)
+kept_formula s e None = tt
+kept_formula s e (Some f) = by (formula.formula_of f)
+  where
+    by : (q : Option Formula) → KeptIn (Some (after_formula s f q))
+    by None = subst (λ m. Kept m (record s { mode = m; formula = f })) (sym e) tt
+    by (Some x) = tt
+
 -- a step keeps it
-kept_step : (m : Mode) (s : State) (t : Token) → Kept m s → is_read t ≡ true → KeptIn (step_in m s t)
-kept_step Begin s (Id w) k r = kept_if (bytes_eq w features_word) (record s { mode = AfterFeatures }) tt
+kept_step : (m : Mode) (s : State) (t : Token) → Kept m s → is_read t ≡ true → KeptIn (step_in m (record s { mode = m }) t)
+kept_step Begin s (Id w) k r = kept_either (bytes_eq w features_word) (record s { mode = AfterFeatures }) (opens_constraint s w) tt (kept_if (bytes_eq w constraint_word) (record s { mode = InConstraint }) tt)
 kept_step Begin s At k r = tt
 kept_step Begin s ClassWord k r = tt
 kept_step Begin s End k r = tt
@@ -345,6 +306,11 @@ kept_step AfterFeatures s (Id w) k r = tt
 kept_step AfterFeature s Comma k r = tt
 kept_step AfterFeature s Semicolon k r = tt
 kept_step AfterFeatureComma s (Id w) k r = tt
+kept_step Start s (Id w) k r = kept_if (bytes_eq w constraint_word) (record s { mode = InConstraint }) tt
+kept_step InConstraint s t k r = kept_formula (record s { mode = InConstraint }) refl (formula.step s.features s.formula t)
+kept_step BetweenClasses s At k r = tt
+kept_step BetweenClasses s ClassWord k r = tt
+kept_step BetweenClasses s End k r = tt
 kept_step Start s At k r = tt
 kept_step Start s ClassWord k r = tt
 kept_step Start s End k r = tt
@@ -406,32 +372,36 @@ both false b e = absurd (let no : ⊥ = cc e in no)
 
 -- a run over tokens that a text can have keeps it
 kept_run : (ts : List Token) (s n : State) → Kept s.mode s → are_read ts ≡ true → (run ts s).0 ≡ Some n → Kept n.mode n
-unfolding run
+unfolding run_of
 kept_run [] s n k r h = let same : s ≡ n = cc h in subst (λ (x : State). Kept x.mode x) same k
 kept_run (t ∷ ts) s n k r h =
     let are = both (is_read t) (are_read ts) r in
-    go (λ x kept e. kept_run ts x n kept are.1 e) (role s t) (step s t) (kept_step s.mode s t k are.0) h
+    go (λ x kept e. kept_run ts x n kept are.1 e) (role s t ∷ []) (step s t) (kept_step s.mode s t k are.0) h
   where
-    go : ((x : State) → Kept x.mode x → (run ts x).0 ≡ Some n → Kept n.mode n) → (q : Role) (o : Option State) → KeptIn o → (then_run (run ts) q o).0 ≡ Some n → Kept n.mode n
+    go : ((x : State) → Kept x.mode x → (run ts x).0 ≡ Some n → Kept n.mode n) → (q : List Role) (o : Option State) → KeptIn o → (then_run (run ts) q o).0 ≡ Some n → Kept n.mode n
     go ih q None kept h = absurd (let no : ⊥ = cc h in no)
     go ih q (Some x) kept h = ih x kept h
 
--- an identifier with which the machine goes on
-record GoesByName (m : Mode) (s : State) : Type 0 where
+-- an identifier with which the machine goes on in a mode
+record GoesIn (m : Mode) (s : State) : Type 0 where
   name : List ℕ
   next : State
   is : is_identifier name ≡ true
   goes : step_in m s (Id name) ≡ Some next
 
 -- by the identifier above
-by_some : (m : Mode) (s n : State) → step_in m s (Id some_name) ≡ Some n → GoesByName m s
+by_some : (m : Mode) (s n : State) → step_in m s (Id some_name) ≡ Some n → GoesIn m s
 by_some m s n e = record { name = some_name; next = n; is = some_name_is; goes = e }
 
 -- where some identifier could stand, one can
-name_goes : (m : Mode) (s : State) → Kept m s → takes_name m ≡ true → GoesByName m s
+name_goes : (m : Mode) (s : State) → Kept m s → takes_name_in m s ≡ true → GoesIn m s
 name_goes Begin s k e =
     let n : State = record s { mode = AfterFeatures } in
-    record { name = features_word; next = n; is = features_is_identifier; goes = ap (λ b. if b then Some n else None) (same_name features_word) }
+    record { name = features_word; next = n; is = features_is_identifier; goes = ap (λ b. if b then Some n else opens_constraint s features_word) (same_name features_word) }
+name_goes Start s k e =
+    let n : State = record s { mode = InConstraint } in
+    record { name = constraint_word; next = n; is = constraint_is_identifier; goes = ap (λ b. if b then Some n else None) (same_name constraint_word) }
+name_goes InConstraint s k e = record { name = some_name; next = _; is = some_name_is; goes = ap (in_formula s) (formula_law.name_goes s.features s.formula some_name e) }
 name_goes AfterFeatures s k e = by_some AfterFeatures s _ refl
 name_goes AfterFeatureComma s k e = by_some AfterFeatureComma s _ refl
 name_goes (AfterAt n) s k e = by_some (AfterAt n) s _ refl
@@ -455,7 +425,9 @@ name_goes AfterEquals s k e =
 name_goes _ s k e = absurd (let no : ⊥ = cc e in no)
 
 -- elsewhere none can
-name_stops : (m : Mode) (s : State) (w : List ℕ) → takes_name m ≡ false → step_in m s (Id w) ≡ None
+name_stops : (m : Mode) (s : State) (w : List ℕ) → takes_name_in m s ≡ false → step_in m s (Id w) ≡ None
+name_stops InConstraint s w e = ap (in_formula s) (formula_law.name_stops s.features s.formula w e)
+name_stops Start s w e = absurd (let no : ⊥ = cc e in no)
 name_stops Begin s w e = absurd (let no : ⊥ = cc e in no)
 name_stops AfterFeatures s w e = absurd (let no : ⊥ = cc e in no)
 name_stops AfterFeatureComma s w e = absurd (let no : ⊥ = cc e in no)
@@ -477,14 +449,224 @@ name_stops AfterThisDot s w e = absurd (let no : ⊥ = cc e in no)
 name_stops AfterEquals s w e = absurd (let no : ⊥ = cc e in no)
 name_stops _ s w e = refl
 
--- the name that a misplaced token gets is the right one
-pub misplaced_as : (front : List Token) (t : Token) (s : State) (rs : List Role) → run front start ≡ (Some s, rs) → are_read front ≡ true → step s t ≡ None → IsMisplaced front t (misplaced_kind s t)
-misplaced_as front t s rs h read stuck = go (is_reserved_word t) (takes_name s.mode) refl refl
+-- states that are equal behind `Some`
+some_same : (s n : State) → Some s ≡ Some n → s ≡ n
+some_same s n e = cc e
+
+-- ---- the formula in hand isn't whole
+
+-- and so behind a step, if there is one
+abbrev OpenIn : Option State → Type 0
+OpenIn None = Unit {0}
+OpenIn (Some n) = formula.is_done n.formula ≡ false
+
+open_if : (b : Bool) (n : State) → formula.is_done n.formula ≡ false → OpenIn (if b then Some n else None)
+open_if true n h = h
+open_if false n h = tt
+
+open_either : (b : Bool) (n : State) (o : Option State) → formula.is_done n.formula ≡ false → OpenIn o → OpenIn (if b then Some n else o)
+open_either true n o h k = h
+open_either false n o h k = k
+
+open_formula : (s : State) (o : Option formula.State) → OpenIn (in_formula s o)
+open_formula s None = tt
+open_formula s (Some f) = by (formula.formula_of f) refl
   where
-    go : (a b : Bool) → is_reserved_word t ≡ a → takes_name s.mode ≡ b → IsMisplaced front t (if a && b then fault.Reserved else fault.Unexpected)
-    go false b word name = other word
-    go true false word name = no_name (λ w is can. cannot_go_on front (Id w) s rs h (name_stops s.mode s w name) can)
-    go true true word name =
-        let kept : Kept s.mode s = kept_run front start s tt read (ap (λ (p : Run). p.0) h) in
-        let n = name_goes s.mode s kept name in
-        reserved word n.name n.is (rs ++ role s (Id n.name) ∷ [], reads_begin (front ++ Id n.name ∷ []) n.next (rs ++ role s (Id n.name) ∷ []) (run_more front (Id n.name) s n.next rs h n.goes))
+    by : (q : Option Formula) → formula.formula_of f ≡ q → OpenIn (Some (after_formula s f q))
+    by None e = none_undone f e
+    by (Some x) e = refl
+
+-- a step keeps it so
+open_step : (m : Mode) (s : State) (t : Token) → formula.is_done s.formula ≡ false → OpenIn (step_in m s t)
+open_step Begin s (Id w) h = open_either (bytes_eq w features_word) (record s { mode = AfterFeatures }) (opens_constraint s w) h (open_if (bytes_eq w constraint_word) (record s { mode = InConstraint }) h)
+open_step Begin s At h = h
+open_step Begin s ClassWord h = h
+open_step Begin s End h = h
+open_step AfterFeatures s (Id w) h = h
+open_step AfterFeature s Comma h = h
+open_step AfterFeature s Semicolon h = h
+open_step AfterFeatureComma s (Id w) h = h
+open_step Start s (Id w) h = open_if (bytes_eq w constraint_word) (record s { mode = InConstraint }) h
+open_step InConstraint s t h = open_formula s (formula.step s.features s.formula t)
+open_step BetweenClasses s At h = h
+open_step BetweenClasses s ClassWord h = h
+open_step BetweenClasses s End h = h
+open_step Start s At h = h
+open_step Start s ClassWord h = h
+open_step Start s End h = h
+open_step (AfterAt n) s (Id w) h = h
+open_step (AfterMark node.Class) s At h = h
+open_step (AfterMark node.Class) s ClassWord h = h
+open_step (AfterMark node.Member) s At h = h
+open_step (AfterMark node.Member) s (Id w) h = h
+open_step (AfterMark node.Param) s At h = h
+open_step (AfterMark node.Param) s (Id w) h = h
+open_step (AfterMark node.Send) s At h = h
+open_step (AfterMark node.Send) s (Id w) h = h
+open_step (AfterMark node.Assign) s At h = h
+open_step (AfterMark node.Assign) s ThisWord h = h
+open_step AfterClass s (Id w) h = h
+open_step AfterClassName s ExtendsWord h = h
+open_step AfterExtends s (Id w) h = h
+open_step AfterParent s OpenBrace h = h
+open_step InMembers s At h = h
+open_step InMembers s (Id w) h = h
+open_step AfterType s (Id w) h = h
+open_step AfterType s OpenParen h = open_if (bytes_eq s.of s.name) (record s { mode = InParams; of = unnamed }) h
+open_step AfterMarkedType s (Id w) h = h
+open_step AfterFieldName s Semicolon h = h
+open_step InParams s At h = h
+open_step InParams s (Id w) h = h
+open_step InParams s CloseParen h = h
+open_step AfterParamComma s At h = h
+open_step AfterParamComma s (Id w) h = h
+open_step AfterParamType s (Id w) h = h
+open_step AfterParam s Comma h = h
+open_step AfterParam s CloseParen h = h
+open_step AfterParams s OpenBrace h = h
+open_step InBody s SuperWord h = h
+open_step AfterSuper s OpenParen h = h
+open_step InSends s At h = h
+open_step InSends s (Id w) h = h
+open_step InSends s CloseParen h = h
+open_step AfterSendComma s At h = h
+open_step AfterSendComma s (Id w) h = h
+open_step AfterSend s Comma h = h
+open_step AfterSend s CloseParen h = h
+open_step AfterSends s Semicolon h = h
+open_step InAssigns s At h = h
+open_step InAssigns s ThisWord h = h
+open_step InAssigns s CloseBrace h = h
+open_step AfterThis s Dot h = h
+open_step AfterThisDot s (Id w) h = h
+open_step AfterAssigned s Equals h = h
+open_step AfterEquals s (Id w) h = open_if (bytes_eq w s.last) (record s { mode = AfterSecondName; last = unnamed }) h
+open_step AfterSecondName s Semicolon h = h
+open_step AfterCtor s CloseBrace h = h
+open_step _ s t h = tt
+
+-- and so does a run
+open_run : (ts : List Token) (s n : State) → formula.is_done s.formula ≡ false → (run ts s).0 ≡ Some n → formula.is_done n.formula ≡ false
+unfolding run_of
+open_run [] s n h e = ap (λ (x : State). formula.is_done x.formula) (sym (some_same s n e)) ∙ h
+open_run (t ∷ ts) s n h e = go (λ x undone g. open_run ts x n undone g) (role s t ∷ []) (step s t) (open_step s.mode s t h) e
+  where
+    go : ((x : State) → formula.is_done x.formula ≡ false → (run ts x).0 ≡ Some n → formula.is_done n.formula ≡ false) → (q : List Role) (o : Option State) → OpenIn o → (then_run (run ts) q o).0 ≡ Some n → formula.is_done n.formula ≡ false
+    go ih q None undone e = absurd (none-some n e)
+    go ih q (Some x) undone e = ih x undone e
+
+-- ---- all laws together
+
+-- what is read can be completed to a text
+closes_front : (front : List Token) (s : State) (rs : List Role) → run front start ≡ (Some s, rs) → Closes built front rs []
+closes_front front s rs h =
+    let e = ending s.mode s (open_run front start s refl (ap (λ (p : Run State). p.0) h)) in
+    let all : run (front ++ e.more) start ≡ ((run e.more s).0, rs ++ (run e.more s).1) = run_append reader front e.more start ∙ ap (on_from reader e.more) h in
+    let t = closed_text (front ++ e.more) (subst (λ (p : Run State). Reaches AtEnd p.0) (sym all) e.reaches) in
+    record { tree = t.0; more = e.more; others = (run e.more s).1; text = t.1; in_roles = ap (λ (p : Run State). p.1) (sym (text_runs t.0) ∙ ap (λ w. run w start) (sym t.1) ∙ all) }
+
+-- where the end may follow, the tokens so far are the text of a tree
+sound : (front : List Token) (s n : State) (rs : List Role) → run front start ≡ (Some s, rs) → step s End ≡ Some n → (x : BuiltTree) × (front ≡ spell x.tree [])
+sound front s n rs h ends = open_text front s.mode (end_at_open s.mode s n ends) (subst (λ (p : Run State). Reaches s.mode p.0) (sym h) refl)
+
+-- No role of a name waits to be settled.
+name_settled : (m : Mode) (w : List ℕ) (rs : List Role) → are_settled (token_role m (Id w) ∷ rs) ≡ are_settled rs
+name_settled (AfterMark node.Class) w rs = refl
+name_settled (AfterMark node.Member) w rs = refl
+name_settled (AfterMark node.Param) w rs = refl
+name_settled (AfterMark node.Send) w rs = refl
+name_settled (AfterMark node.Assign) w rs = refl
+name_settled _ w rs = refl
+
+token_settled : (m : Mode) (t : Token) (rs : List Role) → are_settled (token_role m t ∷ rs) ≡ are_settled rs
+token_settled m (Id w) rs = name_settled m w rs
+token_settled m _ rs = refl
+
+formula_settled : (f : formula.State) (t : Token) (rs : List Role) → are_settled (formula.role f t ∷ rs) ≡ are_settled rs
+formula_settled f (Id w) rs = refl
+formula_settled f TrueWord rs = refl
+formula_settled f FalseWord rs = refl
+formula_settled f Bang rs = refl
+formula_settled f OpenParen rs = refl
+formula_settled f Ampersand rs = refl
+formula_settled f Bar rs = refl
+formula_settled f Arrow rs = refl
+formula_settled f DoubleArrow rs = refl
+formula_settled f _ rs = refl
+
+role_settled : (m : Mode) (s : State) (t : Token) (rs : List Role) → are_settled (role_in m s t ∷ rs) ≡ are_settled rs
+role_settled InConstraint s t rs = formula_settled s.formula t rs
+role_settled (AfterMark n) s t rs = token_settled (AfterMark n) t rs
+role_settled (AfterAt n) s t rs = token_settled (AfterAt n) t rs
+role_settled Begin s t rs = token_settled Begin t rs
+role_settled AfterFeatures s t rs = token_settled AfterFeatures t rs
+role_settled AfterFeature s t rs = token_settled AfterFeature t rs
+role_settled AfterFeatureComma s t rs = token_settled AfterFeatureComma t rs
+role_settled Start s t rs = token_settled Start t rs
+role_settled BetweenClasses s t rs = token_settled BetweenClasses t rs
+role_settled AfterMarkedType s t rs = token_settled AfterMarkedType t rs
+role_settled AfterClass s t rs = token_settled AfterClass t rs
+role_settled AfterClassName s t rs = token_settled AfterClassName t rs
+role_settled AfterExtends s t rs = token_settled AfterExtends t rs
+role_settled AfterParent s t rs = token_settled AfterParent t rs
+role_settled InMembers s t rs = token_settled InMembers t rs
+role_settled AfterType s t rs = token_settled AfterType t rs
+role_settled AfterFieldName s t rs = token_settled AfterFieldName t rs
+role_settled InParams s t rs = token_settled InParams t rs
+role_settled AfterParamComma s t rs = token_settled AfterParamComma t rs
+role_settled AfterParamType s t rs = token_settled AfterParamType t rs
+role_settled AfterParam s t rs = token_settled AfterParam t rs
+role_settled AfterParams s t rs = token_settled AfterParams t rs
+role_settled InBody s t rs = token_settled InBody t rs
+role_settled AfterSuper s t rs = token_settled AfterSuper t rs
+role_settled InSends s t rs = token_settled InSends t rs
+role_settled AfterSendComma s t rs = token_settled AfterSendComma t rs
+role_settled AfterSend s t rs = token_settled AfterSend t rs
+role_settled AfterSends s t rs = token_settled AfterSends t rs
+role_settled InAssigns s t rs = token_settled InAssigns t rs
+role_settled AfterThis s t rs = token_settled AfterThis t rs
+role_settled AfterThisDot s t rs = token_settled AfterThisDot t rs
+role_settled AfterAssigned s t rs = token_settled AfterAssigned t rs
+role_settled AfterEquals s t rs = token_settled AfterEquals t rs
+role_settled AfterSecondName s t rs = token_settled AfterSecondName t rs
+role_settled AfterCtor s t rs = token_settled AfterCtor t rs
+role_settled AtEnd s t rs = token_settled AtEnd t rs
+
+run_settled : (ts : List Token) (s : State) → are_settled ((run ts s).1 ++ []) ≡ true
+unfolding run_of
+run_settled [] s = refl
+run_settled (t ∷ ts) s = go (λ n. run_settled ts n) (step s t)
+  where
+    go : ((n : State) → are_settled ((run ts n).1 ++ []) ≡ true) → (o : Option State) → are_settled ((then_run (run ts) (role s t ∷ []) o).1 ++ []) ≡ true
+    go ih None = refl
+    go ih (Some n) = role_settled s.mode s t ((run ts n).1 ++ []) ∙ ih n
+
+-- where some identifier could stand, one can
+goes_by_name : (front : List Token) (s : State) (rs : List Role) → run front start ≡ (Some s, rs) → are_read front ≡ true → takes_name_in s.mode s ≡ true → GoesByName reader s
+goes_by_name front s rs h read name =
+    let n = name_goes s.mode s (kept_run front start s tt read (ap (λ (p : Run State). p.0) h)) name in
+    record { name = n.name; next = n.next; is = n.is; goes = n.goes }
+
+-- the machine reads the texts of projects
+pub laws : Reads built reader
+laws =
+    record {
+      grammar = grammar_is_plain;
+      ended = ended;
+      stands_for = stands_for;
+      valued = λ x. refl;
+      complete = text_runs;
+      sound = sound;
+      closes = closes_front;
+      first = refl;
+      last = λ x. refl;
+      each = λ s n t goes. refl;
+      settles = λ ts s x rs ran. alike rs refl;
+      settled = λ ts s rs ran. subst (λ (p : Run State). are_settled (p.1 ++ []) ≡ true) ran (run_settled ts start);
+      named = goes_by_name;
+      unnamed = λ s w free. name_stops s.mode s w free;
+    }
+
+pub stands : (s : State) → laws.stands_for s ≡ stands_for s
+unfolding laws
+stands s = refl

@@ -13,7 +13,8 @@ use Rattle.fj_lexer.specs.declared.token.Token as lexer
 use Rattle.fj_lexer.specs.declared.token.TokenKind.TheVariants as kind
 use Rattle.fj_lexer.specs.declared.token.LexFault.{LexFault}
 use Rattle.fj_lexer.specs.declared.token.LexFault.TheVariants.{BadChar, OpenComment}
-use Rattle.fj_parser.specs.Reading.{fault_kind, fault_place, token_read}
+use Rattle.fj_parser.specs.Reading.{fault_kind, fault_place}
+use Rattle.fj_symbols.specs.Views.{token_read}
 
 -- ---- a word that isn't reserved is none of the grammar's words
 

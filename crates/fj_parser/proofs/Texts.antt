@@ -1,5 +1,5 @@
 -- What `Takes` says of a text: it goes together, comes apart, and is one.
-use Rattle.std.proofs.Common.{◌≡◌, ℕ, ◌==◌, Bool, true, false, cond, List, [], ◌∷◌, ◌++◌, refl, sym, ap, subst, ◌∙◌, codes, encode_utf8_all, bytes_eq, chars, IsUtf8}
+use Rattle.std.proofs.Common.{◌≡◌, ℕ, ◌<◌, ◌≤◌, ◌+◌, ◌==◌, Bool, true, false, cond, List, [], ◌∷◌, ◌++◌, length, refl, sym, ap, subst, ◌∙◌, codes, encode_utf8_all, bytes_eq, chars, IsUtf8, arith, length-append}
 use Rattle.std.specs.List.{list_all}
 use Rattle.std.specs.Str.{all_scalars}
 use Rattle.std.proofs.lemmas.Bool.{cond_both, and_parts, and_from, not_from_false}
@@ -7,7 +7,9 @@ use Rattle.std.proofs.lemmas.Str.{chars-encodes, scalars-chars}
 use Rattle.cfj_model.specs.Names.{starts_word, continues_word, is_word, is_reserved, is_identifier}
 use Rattle.cfj_model.specs.Lexemes.{is_blank, is_line_end, Between, blanks, slash, line, block, star, Skipped, Reached, Unclosed, skipped, word_run, word_rest, Lexeme, Lexed, Found, AtEnd, NoToken, NoClose, is_single_mark, after_dash, after_less_dash, after_less, lexeme_at, after_blanks, next_lexeme}
 use Rattle.cfj_model.specs.Tokens.{Token, word_token, mark_token, token_of, Takes}
-use Rattle.fj_parser.specs.Machine.{is_read, are_read}
+use Rattle.fj_symbols.specs.Views.{is_read, are_read}
+use Rattle.fj_lexer.specs.Kinds.{characters_of}
+use Rattle.fj_lexer.proofs.Parts.{IsWhole, whole}
 
 -- What takes these tokens and then those takes them all.
 pub takes_append : (cs : List ℕ) (ts : List Token) (mid : List ℕ) (us : List Token) (rest : List ℕ) → Takes cs ts mid → Takes mid us rest → Takes cs (ts ++ us) rest
@@ -173,3 +175,44 @@ takes_scalars cs (t ∷ ts) rest h (l, from, next, found, is, more) = takes_scal
 -- and so is the token that comes next
 pub next_is_read : (cs : List ℕ) (l : Lexeme) (from rest : List ℕ) → all_scalars cs ≡ true → next_lexeme cs ≡ Found l from rest → is_read (token_of l) ≡ true
 next_is_read cs l from rest h found = (subst IsRead found (next_read cs h)).0
+
+-- ---- what is found is shorter than the text that it is found in
+
+-- no longer than this
+abbrev IsWithin : ℕ → Skipped → Type 0
+IsWithin n (Reached cs) = length cs ≤ n
+IsWithin n (Unclosed from) = Unit {0}
+
+-- what a mode keeps is no longer than this
+abbrev KeepsWithin : ℕ → Between → Type 0
+KeepsWithin n blanks = Unit {0}
+KeepsWithin n (slash from) = length from ≤ n
+KeepsWithin n line = Unit {0}
+KeepsWithin n (block from) = Unit {0}
+KeepsWithin n (star from) = Unit {0}
+
+skipped_within : (n : ℕ) (m : Between) (cs : List ℕ) → KeepsWithin n m → length cs ≤ n → IsWithin n (skipped m cs)
+unfolding skipped
+skipped_within n blanks [] k h = h
+skipped_within n blanks (c ∷ cs) k h = cond_both (is_blank c) _ _ (IsWithin n) (λ e. skipped_within n blanks cs k (omega arith)) (λ e. cond_both (c == 47) _ _ (IsWithin n) (λ f. skipped_within n (slash (c ∷ cs)) cs h (omega arith)) (λ f. h))
+skipped_within n (slash from) [] k h = k
+skipped_within n (slash from) (c ∷ cs) k h = cond_both (c == 47) _ _ (IsWithin n) (λ e. skipped_within n line cs tt (omega arith)) (λ e. cond_both (c == 42) _ _ (IsWithin n) (λ f. skipped_within n (block from) cs tt (omega arith)) (λ f. k))
+skipped_within n line [] k h = h
+skipped_within n line (c ∷ cs) k h = cond_both (is_line_end c) _ _ (IsWithin n) (λ e. skipped_within n blanks cs tt (omega arith)) (λ e. skipped_within n line cs tt (omega arith))
+skipped_within n (block from) [] k h = tt
+skipped_within n (block from) (c ∷ cs) k h = cond_both (c == 42) _ _ (IsWithin n) (λ e. skipped_within n (star from) cs tt (omega arith)) (λ e. skipped_within n (block from) cs tt (omega arith))
+skipped_within n (star from) [] k h = tt
+skipped_within n (star from) (c ∷ cs) k h = cond_both (c == 47) _ _ (IsWithin n) (λ e. skipped_within n blanks cs tt (omega arith)) (λ e. cond_both (c == 42) _ _ (IsWithin n) (λ f. skipped_within n (star from) cs tt (omega arith)) (λ f. skipped_within n (block from) cs tt (omega arith)))
+
+found_behind : (n : ℕ) (s : Skipped) (l : Lexeme) (from rest : List ℕ) → IsWithin n s → after_blanks s ≡ Found l from rest → length rest < n
+found_behind n (Reached cs) l from rest h e =
+    let w : IsWhole cs l rest = whole cs l from rest e in
+    let long : length cs ≡ length (characters_of l) + length rest = ap length w.whole ∙ length-append (characters_of l) rest in
+    let filled = w.filled in
+    omega arith
+found_behind n (Unclosed from) l place rest h e = absurd (let no : ⊥ = cc e in no)
+
+-- What stands behind a lexeme is shorter.
+pub found_shorter : (cs : List ℕ) (l : Lexeme) (from rest : List ℕ) → next_lexeme cs ≡ Found l from rest → length rest < length cs
+unfolding next_lexeme
+found_shorter cs l from rest e = found_behind (length cs) (skipped blanks cs) l from rest (skipped_within (length cs) blanks cs tt (omega arith)) e

@@ -1,24 +1,34 @@
 -- What becomes of one token.
-use Rattle.std.specs.Prelude.{◌≡◌, is_some, ◌&&◌, if◌then◌else◌, ◌⊎◌, Option, Some, None}
+use Rattle.std.specs.Prelude.{◌≡◌, ℕ, List, ◌∷◌, ◌++◌, length, Option, Some, None}
 use Rattle.cfj_model.specs.declared.fault.FaultKind.{FaultKind}
-use Rattle.cfj_model.specs.declared.fault.FaultKind.TheVariants.{Reserved, Unexpected}
-use Rattle.cfj_model.specs.Tokens.{Token, Id, is_reserved_word}
-use Rattle.cfj_model.specs.Roles.{Tally, broken_by, counted}
-use Rattle.fj_parser.specs.Machine.{State, step, role, misplaced_kind, takes_name}
-use Rattle.fj_parser.specs.declared.mode.Mode.{Mode}
+use Rattle.cfj_model.specs.Tokens.{Token}
+use Rattle.cfj_model.specs.Roles.{Role, Tally, broken_by, tallied, AreWithin}
+use Rattle.fj_parser.specs.Readers.{Reader, misplaced_kind}
 
--- how a token that can't stand in a mode is named
-abbrev pub misplaced_in : Mode → Token → FaultKind
-misplaced_in m t = if is_reserved_word t && takes_name m then Reserved else Unexpected
+-- The first of these roles that breaks a rule or a limit has so many before it.
+pub record BreaksAt (t : Tally) (rs : List Role) (place : ℕ) (kind : FaultKind) : Type 0 where
+  pub before : List Role
+  pub r : Role
+  pub after : List Role
+  pub all : rs ≡ before ++ r ∷ after
+  pub within : AreWithin t before
+  pub breaks : broken_by (tallied t before) r ≡ Some kind
+  pub there : length before ≡ place
 
--- the first fault of a token that breaks something: an identifier that can't stand here is Unexpected
-abbrev pub worst_of : State → Token → FaultKind → FaultKind
-worst_of s (Id w) broken = if is_some (step s (Id w)) then broken else Unexpected
-worst_of s _ broken = broken
+-- The reader goes on, and the roles that are settled break nothing and are counted.
+pub record IsAccepted (m : Reader) (s : m.State) (t : Tally) (token : Token) (n : m.State) (u : Tally) : Type 0 where
+  pub goes : m.step s token ≡ Some n
+  pub within : AreWithin t (m.emitted s token)
+  pub counts : u ≡ tallied t (m.emitted s token)
 
--- A token can't go on, or it goes on and breaks a rule or a limit; else the machine goes on and the token is counted.
-abbrev pub IsAccepted : State → Tally → Token → State → Tally → Option FaultKind → Type 0
-IsAccepted s t token n u None = (step s token ≡ Some n) × (broken_by t (role s token) ≡ None) × (u ≡ counted t (role s token))
-IsAccepted s t token n u (Some kind) =
-    ((step s token ≡ None) × (kind ≡ misplaced_kind s token))
-    ⊎ ((m : State) × (step s token ≡ Some m) × (broken_by t (role s token) ≡ Some kind))
+-- What refuses a token: a role that it settles, where it can go on; else a role that waits; else that it can't stand here. The
+-- number tells the place, among the tokens whose roles wait and then this token.
+pub data IsRefused (m : Reader) (s : m.State) (t : Tally) (token : Token) : ℕ → FaultKind → Type 0 where
+  settled : (place : ℕ) (kind : FaultKind) (n : m.State) → m.step s token ≡ Some n → BreaksAt t (m.emitted s token) place kind → IsRefused m s t token place kind
+  waiting : (place : ℕ) (kind : FaultKind) → m.step s token ≡ None → BreaksAt t (m.pending s) place kind → IsRefused m s t token place kind
+  misplaced : m.step s token ≡ None → AreWithin t (m.pending s) → IsRefused m s t token (length (m.pending s)) (misplaced_kind m s token)
+
+-- What becomes of a token where no role waits: it is accepted, or its fault is told.
+abbrev pub Outcome : (m : Reader) → m.State → Tally → Token → m.State → Tally → Option FaultKind → Type 0
+Outcome m s t token n u None = IsAccepted m s t token n u
+Outcome m s t token n u (Some kind) = IsRefused m s t token 0 kind

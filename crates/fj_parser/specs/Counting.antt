@@ -4,7 +4,7 @@ use Rattle.cfj_model.specs.Roles.{Tally}
 use Rattle.fj_parser.specs.Machine.{State}
 use Rattle.fj_parser.specs.declared.mode.Node.TheVariants as node
 use Rattle.fj_parser.specs.declared.mode.Mode.{Mode}
-use Rattle.fj_parser.specs.declared.mode.Mode.TheVariants.{Begin, AfterFeatures, AfterFeature, AfterFeatureComma, Start, AfterAt, AfterMark, AfterClass}
+use Rattle.fj_parser.specs.declared.mode.Mode.TheVariants.{Begin, AfterFeatures, AfterFeature, AfterFeatureComma, Start, InConstraint, BetweenClasses, AfterAt, AfterMark, AfterClass}
 
 -- the modes before a class's name
 abbrev pub is_bare_mode : Mode → Bool
@@ -13,6 +13,8 @@ is_bare_mode AfterFeatures = true
 is_bare_mode AfterFeature = true
 is_bare_mode AfterFeatureComma = true
 is_bare_mode Start = true
+is_bare_mode InConstraint = true
+is_bare_mode BetweenClasses = true
 is_bare_mode (AfterAt node.Class) = true
 is_bare_mode (AfterMark node.Class) = true
 is_bare_mode AfterClass = true

@@ -1,8 +1,10 @@
 pub mod Accepting
 pub mod Answers
+pub mod Built
 pub mod Counting
+pub mod Laws
 pub mod Machine
 pub mod MachineViews
-pub mod Places
 pub mod Reading
+pub mod Readers
 pub mod Views

@@ -1,31 +1,36 @@
 -- The machine that reads one token at a time: how it goes on, and the role that it gives each token.
-use Rattle.std.specs.Prelude.{ℕ, Bool, true, false, ◌&&◌, if◌then◌else◌, List, [], ◌∷◌, ◌++◌, length, codes, bit_or, Option, Some, None}
-use Rattle.std.specs.List.{list_all}
+use Rattle.std.specs.Prelude.{ℕ, Bool, true, false, if◌then◌else◌, List, [], ◌∷◌, ◌++◌, length, codes, bit_or, Option, Some, None}
 use Rattle.std.specs.Str.{bytes_eq}
 use Rattle.cfj_model.specs.declared.class.Field.{Field}
 use Rattle.cfj_model.specs.declared.class.Param.{Param}
 use Rattle.cfj_model.specs.declared.class.Sent.{Sent}
 use Rattle.cfj_model.specs.declared.class.Class.{Class}
-use Rattle.cfj_model.specs.declared.fault.FaultKind.{FaultKind}
-use Rattle.cfj_model.specs.declared.fault.FaultKind.TheVariants as fault
-use Rattle.cfj_model.specs.Grammar.{color_of, features_word}
-use Rattle.cfj_model.specs.Names.{is_identifier}
-use Rattle.cfj_model.specs.Tokens.{Token, Id, ClassWord, ExtendsWord, SuperWord, ThisWord, OpenBrace, CloseBrace, OpenParen, CloseParen, Semicolon, Comma, Dot, Equals, At, End, is_reserved_word}
+use Rattle.cfj_model.specs.declared.formula.Formula.{Formula}
+use Rattle.cfj_model.specs.Grammar.{constraint_word, features_word}
+use Rattle.cfj_model.specs.ProductLines.{ProductLine}
+use Rattle.cfj_model.specs.Marks.{color_of}
+use Rattle.cfj_model.specs.Tokens.{Token, Id, ClassWord, ExtendsWord, SuperWord, ThisWord, OpenBrace, CloseBrace, OpenParen, CloseParen, Semicolon, Comma, Dot, Equals, At, End}
 use Rattle.cfj_model.specs.Roles.{Role, feature_name, mark_name, class_name, field_name, param_name, sent_name, assigned_name, used_name, plain}
+use Rattle.formula_reader.specs.Machine as formula
+use Rattle.fj_parser.specs.Readers.{Reader, Run, run_of}
+use Rattle.fj_parser.specs.Reading.{of_parts}
 use Rattle.fj_parser.specs.declared.mode.Node.{Node}
 use Rattle.fj_parser.specs.declared.mode.Node.TheVariants as node
 use Rattle.fj_parser.specs.declared.mode.Mode.{Mode}
-use Rattle.fj_parser.specs.declared.mode.Mode.TheVariants.{Begin, AfterFeatures, AfterFeature, AfterFeatureComma, Start, AfterAt, AfterMark, AfterMarkedType, AfterClass, AfterClassName, AfterExtends, AfterParent, InMembers, AfterType, AfterFieldName, InParams, AfterParamComma, AfterParamType, AfterParam, AfterParams, InBody, AfterSuper, InSends, AfterSendComma, AfterSend, AfterSends, InAssigns, AfterThis, AfterThisDot, AfterAssigned, AfterEquals, AfterSecondName, AfterCtor, AtEnd}
+use Rattle.fj_parser.specs.declared.mode.Mode.TheVariants.{Begin, AfterFeatures, AfterFeature, AfterFeatureComma, Start, InConstraint, BetweenClasses, AfterAt, AfterMark, AfterMarkedType, AfterClass, AfterClassName, AfterExtends, AfterParent, InMembers, AfterType, AfterFieldName, InParams, AfterParamComma, AfterParamType, AfterParam, AfterParams, InBody, AfterSuper, InSends, AfterSendComma, AfterSend, AfterSends, InAssigns, AfterThis, AfterThisDot, AfterAssigned, AfterEquals, AfterSecondName, AfterCtor, AtEnd}
 
 -- what stands for a name that isn't in hand
 abbrev pub unnamed : List ℕ
 unnamed = codes "this"
 
--- The features and classes that are read, the class in hand with its colours, the colours of the marks in hand, the type and
--- the name that were read last, and the mode. A list or a set that isn't in hand is empty, and a name is `unnamed`.
+-- The features, constraints and classes that are read, the formula in hand, the class in hand with its colours, the colours of
+-- the marks in hand, the type and the name that were read last, and the mode. A list or a set that isn't in hand is empty, a name
+-- is `unnamed`, and a formula is before its first token.
 pub record State : Type 0 where
   pub mode : Mode
   pub features : List (List ℕ)
+  pub constraints : List Formula
+  pub formula : formula.State
   pub classes : List Class
   pub class_colors : ℕ
   pub name : List ℕ
@@ -38,12 +43,14 @@ pub record State : Type 0 where
   pub of : List ℕ
   pub last : List ℕ
 
--- behind these features and classes
-abbrev pub behind : List (List ℕ) → List Class → State
-behind features classes =
+-- behind these features, constraints and classes
+abbrev pub behind : List (List ℕ) → List Formula → List Class → State
+behind features constraints classes =
     record {
-      mode = Start;
+      mode = BetweenClasses;
       features = features;
+      constraints = constraints;
+      formula = formula.start;
       classes = classes;
       class_colors = 0;
       name = unnamed;
@@ -57,9 +64,13 @@ behind features classes =
       last = unnamed;
     }
 
+-- behind these features and constraints, before all classes
+abbrev pub before_classes : List (List ℕ) → List Formula → State
+before_classes features constraints = record (behind features constraints []) { mode = Start }
+
 -- before the first token
 abbrev pub start : State
-start = record (behind [] []) { mode = Begin }
+start = record (behind [] [] []) { mode = Begin }
 
 -- the state with another mode
 abbrev pub to : Mode → State → Option State
@@ -95,10 +106,27 @@ with_assign s w = record s { mode = AfterAssigned; assigns = s.assigns ++ record
 
 -- the class in hand
 abbrev pub class_of : State → Class
-class_of s = record { name = s.name; colors = s.class_colors; parent = s.parent; fields = s.fields; ctor = record { params = s.params; sends = s.sends; assigns = s.assigns } }
+class_of s = record { name = s.name; colors = s.class_colors; parent = s.parent; fields = s.fields; ctor = record { params = s.params; sends = s.sends; assigns = s.assigns }; methods = [] }
+
+-- the class in hand is whole
+abbrev pub with_class : State → State
+with_class s = record (behind s.features s.constraints (s.classes ++ class_of s ∷ [])) { formula = s.formula }
+
+-- a formula that is read so far, or whole
+abbrev pub after_formula : State → formula.State → Option Formula → State
+after_formula s f None = record s { formula = f }
+after_formula s f (Some x) = record s { mode = Start; constraints = s.constraints ++ x ∷ []; formula = formula.start }
+
+abbrev pub in_formula : State → Option formula.State → Option State
+in_formula s None = None
+in_formula s (Some f) = Some (after_formula s f (formula.formula_of f))
+
+-- a word that begins a constraint
+abbrev pub opens_constraint : State → List ℕ → Option State
+opens_constraint s w = if bytes_eq w constraint_word then to InConstraint s else None
 
 abbrev pub step_in : Mode → State → Token → Option State
-step_in Begin s (Id w) = if bytes_eq w features_word then to AfterFeatures s else None
+step_in Begin s (Id w) = if bytes_eq w features_word then to AfterFeatures s else opens_constraint s w
 step_in Begin s At = to (AfterAt node.Class) s
 step_in Begin s ClassWord = to AfterClass s
 step_in Begin s End = to AtEnd s
@@ -106,9 +134,14 @@ step_in AfterFeatures s (Id w) = Some (with_feature s w)
 step_in AfterFeature s Comma = to AfterFeatureComma s
 step_in AfterFeature s Semicolon = to Start s
 step_in AfterFeatureComma s (Id w) = Some (with_feature s w)
+step_in Start s (Id w) = opens_constraint s w
 step_in Start s At = to (AfterAt node.Class) s
 step_in Start s ClassWord = to AfterClass s
 step_in Start s End = to AtEnd s
+step_in InConstraint s t = in_formula s (formula.step s.features s.formula t)
+step_in BetweenClasses s At = to (AfterAt node.Class) s
+step_in BetweenClasses s ClassWord = to AfterClass s
+step_in BetweenClasses s End = to AtEnd s
 step_in (AfterAt n) s (Id w) = Some (with_mark n s w)
 step_in (AfterMark node.Class) s At = to (AfterAt node.Class) s
 step_in (AfterMark node.Class) s ClassWord = Some (with_class_colors s)
@@ -157,8 +190,12 @@ step_in AfterThisDot s (Id w) = Some (with_assign s w)
 step_in AfterAssigned s Equals = to AfterEquals s
 step_in AfterEquals s (Id w) = if bytes_eq w s.last then Some (record s { mode = AfterSecondName; last = unnamed }) else None
 step_in AfterSecondName s Semicolon = to InAssigns s
-step_in AfterCtor s CloseBrace = Some (behind s.features (s.classes ++ class_of s ∷ []))
+step_in AfterCtor s CloseBrace = Some (with_class s)
 step_in _ s t = None
+
+-- what a state stands for
+abbrev pub stands_for : State → ProductLine
+stands_for s = of_parts s.features s.constraints s.classes
 
 -- the next state; none where the token can't go on
 abbrev pub step : State → Token → Option State
@@ -179,17 +216,23 @@ name_role (AfterMark node.Send) w = sent_name w
 name_role AfterThisDot w = assigned_name w
 name_role _ w = used_name w
 
-abbrev pub role_in : Mode → Token → Role
-role_in m (Id w) = name_role m w
-role_in m _ = plain
+-- what a token is behind what was read last
+abbrev pub token_role : Mode → Token → Role
+token_role m (Id w) = name_role m w
+token_role m _ = plain
+
+abbrev pub role_in : Mode → State → Token → Role
+role_in InConstraint s t = formula.role s.formula t
+role_in m s t = token_role m t
 
 -- the role of a token at this state
 abbrev pub role : State → Token → Role
-role s t = role_in s.mode t
+role s t = role_in s.mode s t
 
--- some identifier could stand next
+-- some identifier could stand next, outside of a formula
 abbrev pub takes_name : Mode → Bool
 takes_name Begin = true
+takes_name Start = true
 takes_name AfterFeatures = true
 takes_name AfterFeatureComma = true
 takes_name (AfterAt n) = true
@@ -210,29 +253,20 @@ takes_name AfterThisDot = true
 takes_name AfterEquals = true
 takes_name _ = false
 
--- how a token that can't go on is named
-abbrev pub misplaced_kind : State → Token → FaultKind
-misplaced_kind s t = if is_reserved_word t && takes_name s.mode then fault.Reserved else fault.Unexpected
+abbrev pub takes_name_in : Mode → State → Bool
+takes_name_in InConstraint s = formula.takes_name s.formula
+takes_name_in m s = takes_name m
 
--- what is reached, and the roles on the way
-abbrev pub Run : Type 0
-Run = Option State × List Role
+-- each token's role is settled by the token itself
+abbrev pub emitted : State → Token → List Role
+emitted s t = role s t ∷ []
 
-abbrev pub with_role : Role → Run → Run
-with_role r p = (p.0, r ∷ p.1)
+abbrev pub pending : State → List Role
+pending s = []
 
-abbrev pub then_run : (State → Run) → Role → Option State → Run
-then_run f r None = (None, [])
-then_run f r (Some s) = with_role r (f s)
+-- the machine as a reader
+abbrev pub reader : Reader
+reader = record { State = State; start = start; step = step; emitted = emitted; pending = pending; takes_name = λ s. takes_name_in s.mode s }
 
-unfoldable pub run : List Token → State → Run
-run [] s = (Some s, [])
-run (t ∷ ts) s = then_run (run ts) (role s t) (step s t)
-
--- a token that a text can have: what is called an identifier is one
-abbrev pub is_read : Token → Bool
-is_read (Id w) = is_identifier w
-is_read _ = true
-
-abbrev pub are_read : List Token → Bool
-are_read = list_all is_read
+abbrev pub run : List Token → State → Run State
+run = run_of reader

@@ -10,6 +10,8 @@ machine_seen m =
     record {
       mode = m.mode;
       features = m.features;
+      constraints = m.constraints.items;
+      formula = m.formula;
       classes = m.classes.items;
       class_colors = m.class_colors;
       name = m.name.now;

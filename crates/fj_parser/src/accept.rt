@@ -1,41 +1,40 @@
-ghost use Rattle.std.specs.Prelude.{◌≡◌, true, None, IfOk};
-ghost use Rattle.fj_parser.specs.Accepting.{IsAccepted, misplaced_in, worst_of};
-ghost use Rattle.fj_parser.specs.Machine.{misplaced_kind, is_read};
+ghost use Rattle.std.specs.Prelude.{◌≡◌, true, None, IfOk, is_some};
+ghost use Rattle.fj_parser.specs.Accepting.{Outcome};
+ghost use Rattle.fj_parser.specs.Machine.{reader, step};
 ghost use Rattle.fj_parser.specs.MachineViews.{machine_seen, IsRoomy};
-ghost use Rattle.fj_parser.specs.Views.{symbol_seen, tally_seen};
+ghost use Rattle.fj_parser.specs.Readers.{misplaced_as};
+ghost use Rattle.fj_parser.specs.Views.{tally_seen};
+ghost use Rattle.fj_symbols.specs.Views.{is_read, symbol_seen};
 
 use crate::machine::Machine;
-use crate::mode::Mode;
-use crate::role::role_of;
-use crate::symbol::Symbol;
 use crate::tally::Tally;
 use cfj_model::FaultKind;
+use fj_symbols::Symbol;
 use std::alloc::{AllocError, Global};
 
 /// How a token that can't stand here is named.
-fn misplaced(mode: Mode, symbol: Symbol<'_>) -> FaultKind
-    ensures { result ≡ misplaced_in mode (symbol_seen symbol.entry) }
+fn misplaced(takes_name: bool, symbol: Symbol<'_>) -> FaultKind
+    ensures { result ≡ misplaced_as takes_name (symbol_seen symbol.entry) }
 {
-    if symbol.is_reserved_word() && mode.takes_name() {
+    if symbol.is_reserved_word() && takes_name {
         FaultKind::Reserved
     } else {
         FaultKind::Unexpected
     }
 }
 
-/// What is wrong with a token that breaks a rule or a limit: first of all that it can't stand here.
-fn worst<'a>(machine: &Machine<'a>, symbol: Symbol<'a>, broken: FaultKind) -> FaultKind
-    ensures { result ≡ worst_of (machine_seen machine.now) (symbol_seen symbol.entry) broken }
+/// Whether the machine can go on by this token; what it steps to is of no more use.
+fn goes<'a>(
+    alloc: Global,
+    machine: &mut Machine<'a>,
+    symbol: Symbol<'a>,
+) -> Result<bool, AllocError>
+    requires room { IsRoomy (machine_seen machine.old) }
+    ensures { IfOk result (λ goes. goes ≡ is_some (step (machine_seen machine.old) (symbol_seen symbol.entry))) }
 {
     match symbol {
-        Symbol::Id(name) => {
-            if machine.takes(name) {
-                broken
-            } else {
-                FaultKind::Unexpected
-            }
-        }
-        _ => broken,
+        Symbol::Id(name) => Ok(machine.takes(name)),
+        _ => machine.step(alloc, symbol),
     }
 }
 
@@ -48,16 +47,20 @@ pub fn accept<'a>(
 ) -> Result<Option<FaultKind>, AllocError>
     requires read { is_read (symbol_seen symbol) ≡ true }
     requires room { IsRoomy (machine_seen machine.old) }
-    ensures { IfOk result (IsAccepted
+    ensures { IfOk result (Outcome reader
         (machine_seen machine.old) (tally_seen tally.old) (symbol_seen symbol.entry) (machine_seen machine.new) (tally_seen tally.new)) }
 {
-    let role = role_of(machine.mode, symbol);
+    let role = machine.role(symbol);
+    let takes_name = machine.takes_name();
     if let Some(broken) = tally.broken_by(alloc, role)? {
-        return Ok(Some(worst(machine, symbol, broken)));
+        // First of all it has to be a token that can stand here.
+        if goes(alloc, machine, symbol)? {
+            return Ok(Some(broken));
+        }
+        return Ok(Some(misplaced(takes_name, symbol)));
     }
-    let mode = machine.mode;
     if !machine.step(alloc, symbol)? {
-        return Ok(Some(misplaced(mode, symbol)));
+        return Ok(Some(misplaced(takes_name, symbol)));
     }
     tally.count(role)?;
     Ok(None)

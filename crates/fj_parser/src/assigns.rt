@@ -3,13 +3,12 @@ ghost use Rattle.cfj_model.specs.Names.{is_name};
 ghost use Rattle.cfj_model.specs.Tokens.{Id};
 ghost use Rattle.fj_parser.specs.Machine as spec;
 ghost use Rattle.fj_parser.specs.MachineViews.{machine_seen, GoesIn};
-ghost use Rattle.fj_parser.specs.Views.{symbol_seen, is_name_token};
+ghost use Rattle.fj_symbols.specs.Views.{symbol_seen, is_name_token};
 
 use crate::machine::{Machine, NO_NAME};
 use crate::mode::{Mode, Node};
-use crate::names::name_of;
-use crate::symbol::Symbol;
 use cfj_model::{Colors, Sent};
+use fj_symbols::{Symbol, name_of};
 use std::alloc::{AllocError, Global};
 
 /// The assignments of a constructor.

@@ -1,20 +1,25 @@
 ghost use Rattle.std.specs.Prelude.{◌≡◌, ◌≤◌, true, IfOk, OnOk, bit_or, length};
-ghost use Rattle.cfj_model.specs.Grammar.{color_of};
+ghost use Rattle.cfj_model.specs.Marks.{color_of};
 ghost use Rattle.cfj_model.specs.Names.{is_name};
 ghost use Rattle.cfj_model.specs.Tokens.{Id};
+ghost use Rattle.formula_reader.specs.Machine as formula;
 ghost use Rattle.fj_parser.specs.Machine as spec;
 ghost use Rattle.fj_parser.specs.MachineViews.{machine_seen, GoesIn};
-ghost use Rattle.fj_parser.specs.Views.{symbol_seen, is_name_token};
+ghost use Rattle.fj_symbols.specs.Views.{symbol_seen, is_name_token};
 
-use crate::features::Features;
 use crate::machine::Machine;
 use crate::mode::{Mode, Node};
-use crate::symbol::Symbol;
 use cfj_model::Colors;
+use fj_symbols::{Features, Symbol};
+use formula_reader::FormulaReader;
 use std::alloc::{AllocError, Global};
+use std::mem;
 
 /// The word that begins the feature line.
 pub(crate) const FEATURES_WORD: &str = "features";
+
+/// The word that begins a constraint.
+pub(crate) const CONSTRAINT_WORD: &str = "constraint";
 
 /// The colours with this mark too; a name that isn't a feature marks nothing.
 fn marked(colors: Colors, features: &Features<'_>, name: &str) -> Colors
@@ -33,7 +38,7 @@ impl<'a> Machine<'a> {
         ensures { GoesIn Mode.Begin result (machine_seen self.old) (symbol_seen symbol.entry) (machine_seen self.new) }
     {
         match symbol {
-            Symbol::Id(name) => self.opens_features(name),
+            Symbol::Id(name) => self.opens_model(name),
             Symbol::At => {
                 self.mode = Mode::AfterAt(Node::Class);
                 true
@@ -50,14 +55,24 @@ impl<'a> Machine<'a> {
         }
     }
 
-    /// A feature line begins with a word that is an identifier elsewhere.
-    fn opens_features(&mut self, name: &str) -> bool
+    /// A feature line and a constraint begin with words that are identifiers elsewhere.
+    fn opens_model(&mut self, name: &str) -> bool
         ensures { GoesIn Mode.Begin result (machine_seen self.old) (Id name.now) (machine_seen self.new) }
     {
-        if name != FEATURES_WORD {
+        if name == FEATURES_WORD {
+            self.mode = Mode::AfterFeatures;
+            return true;
+        }
+        self.opens_constraint(name)
+    }
+
+    fn opens_constraint(&mut self, name: &str) -> bool
+        ensures { GoesIn Mode.Start result (machine_seen self.old) (Id name.now) (machine_seen self.new) }
+    {
+        if name != CONSTRAINT_WORD {
             return false;
         }
-        self.mode = Mode::AfterFeatures;
+        self.mode = Mode::InConstraint;
         true
     }
 
@@ -122,6 +137,45 @@ impl<'a> Machine<'a> {
 
     pub(crate) fn at_start(&mut self, symbol: Symbol<'a>) -> bool
         ensures { GoesIn Mode.Start result (machine_seen self.old) (symbol_seen symbol.entry) (machine_seen self.new) }
+    {
+        match symbol {
+            Symbol::Id(name) => self.opens_constraint(name),
+            _ => self.between_classes(symbol),
+        }
+    }
+
+    pub(crate) fn in_constraint(
+        &mut self,
+        alloc: Global,
+        symbol: Symbol<'a>,
+    ) -> Result<bool, AllocError>
+        requires { length self.old.features ≤ 128 }
+        ensures { IfOk result (λ goes. GoesIn Mode.InConstraint goes (machine_seen self.old) (symbol_seen symbol.entry) (machine_seen self.new)) }
+    {
+        if !self.formula.step(alloc, &self.features, symbol)? {
+            return Ok(false);
+        }
+        if self.formula.is_done() {
+            self.push_constraint(alloc)?;
+        }
+        Ok(true)
+    }
+
+    /// The formula in hand is whole.
+    fn push_constraint(&mut self, alloc: Global) -> Result<(), AllocError>
+        requires { formula.is_done self.old.formula ≡ true }
+        ensures { OnOk result (machine_seen self.new ≡ spec.after_formula (machine_seen self.old) self.old.formula (formula.formula_of self.old.formula)) }
+    {
+        let formula = mem::replace(&mut self.formula, FormulaReader::new(alloc));
+        if let Some(formula) = formula.into_formula() {
+            self.constraints.push(formula)?;
+            self.mode = Mode::Start;
+        }
+        Ok(())
+    }
+
+    pub(crate) fn between_classes(&mut self, symbol: Symbol<'a>) -> bool
+        ensures { GoesIn Mode.BetweenClasses result (machine_seen self.old) (symbol_seen symbol.entry) (machine_seen self.new) }
     {
         match symbol {
             Symbol::At => {

@@ -6,18 +6,17 @@
 #![tactic(auto)]
 
 mod accept;
+mod adds;
 mod assigns;
 mod ctors;
-mod features;
 mod heads;
 mod machine;
 mod members;
 mod met;
 mod mode;
-mod names;
 mod parser;
 mod role;
-mod symbol;
+mod rules;
 mod tally;
 
 pub use parser::parse_project;

@@ -3,22 +3,25 @@ ghost use Rattle.cfj_model.specs.Names.{is_name};
 ghost use Rattle.cfj_model.specs.Tokens.{Id};
 ghost use Rattle.fj_parser.specs.Machine as spec;
 
-use crate::features::Features;
-use crate::heads::FEATURES_WORD;
+use crate::heads::{CONSTRAINT_WORD, FEATURES_WORD};
 use crate::mode::{Mode, Node};
-use crate::symbol::Symbol;
-use cfj_model::{Class, Colors, Field, Name, Param, Sent};
+use crate::role::role_of;
+use cfj_model::{Class, Colors, FeatureModel, Field, Formula, Items, Param, Sent};
+use fj_symbols::{Features, Role, Symbol};
+use formula_reader::FormulaReader;
 use std::alloc::{AllocError, Global};
 
 /// What stands for a name that isn't in hand.
 pub(crate) const NO_NAME: &str = "this";
 
-/// The features and classes that are read, the class in hand with its colours, the colours of the marks in hand, the type and
-/// the name that were read last, and what was read last.
+/// The features, constraints and classes that are read, the formula in hand, the class in hand with its colours, the colours of
+/// the marks in hand, the type and the name that were read last, and what was read last.
 #[derive(Drop)]
 pub struct Machine<'a> {
     pub mode: Mode,
     pub features: Features<'a>,
+    pub constraints: Vec<Formula>,
+    pub formula: FormulaReader,
     pub classes: Vec<Class>,
     pub class_colors: Colors,
     pub name: &'a str,
@@ -37,8 +40,9 @@ pub struct Machine<'a> {
 }
 
 impl<'a> Machine<'a> {
+    ghost use Rattle.fj_parser.specs.Reading.{of_parts};
     ghost use Rattle.fj_parser.specs.MachineViews.{machine_seen, Goes, GoesIn, IsRoomy};
-    ghost use Rattle.fj_parser.specs.Views.{symbol_seen, is_name_token};
+    ghost use Rattle.fj_symbols.specs.Views.{is_name_token, role_seen, symbol_seen};
 
     /// Before the first token; no memory is taken.
     pub fn new(alloc: Global) -> Machine<'a>
@@ -47,6 +51,8 @@ impl<'a> Machine<'a> {
         Machine {
             mode: Mode::Begin,
             features: Features::new(alloc),
+            constraints: Vec::new(alloc),
+            formula: FormulaReader::new(alloc),
             classes: Vec::new(alloc),
             class_colors: Colors::empty(),
             name: NO_NAME,
@@ -61,12 +67,35 @@ impl<'a> Machine<'a> {
         }
     }
 
-    /// The features and classes that are read.
-    pub fn into_parts(self) -> (Vec<Name>, Vec<Class>)
-        ensures features { result.0.items ≡ self.entry.features }
-        ensures classes { result.1.items ≡ self.entry.classes.items }
+    /// The features, constraints and classes that are read.
+    pub fn into_parts(self) -> (FeatureModel, Vec<Class>)
+        ensures { of_parts result.0.features result.0.constraints result.1.items ≡ spec.stands_for (machine_seen self.entry) }
     {
-        (self.features.into_names(), self.classes)
+        let model = FeatureModel {
+            features: Items::of(self.features.into_names()),
+            constraints: Items::of(self.constraints),
+        };
+        (model, self.classes)
+    }
+
+    /// What a token would be here.
+    pub fn role(&self, symbol: Symbol<'a>) -> Role<'a>
+        ensures { role_seen result ≡ spec.role (machine_seen self.now) (symbol_seen symbol.entry) }
+    {
+        match self.mode {
+            Mode::InConstraint => self.formula.role(symbol),
+            mode => role_of(mode, symbol),
+        }
+    }
+
+    /// Whether some identifier could stand next.
+    pub fn takes_name(&self) -> bool
+        ensures { result ≡ spec.takes_name_in self.now.mode (machine_seen self.now) }
+    {
+        match self.mode {
+            Mode::InConstraint => self.formula.takes_name(),
+            mode => mode.takes_name(),
+        }
     }
 
     /// Whether this identifier could stand next.
@@ -74,7 +103,9 @@ impl<'a> Machine<'a> {
         ensures { result ≡ is_some (spec.step (machine_seen self.now) (Id name.now)) }
     {
         match self.mode {
-            Mode::Begin => name == FEATURES_WORD,
+            Mode::Begin => name == FEATURES_WORD || name == CONSTRAINT_WORD,
+            Mode::Start => name == CONSTRAINT_WORD,
+            Mode::InConstraint => self.formula.takes_name(),
             Mode::AfterEquals => name == self.last,
             mode => mode.takes_name(),
         }
@@ -92,6 +123,8 @@ impl<'a> Machine<'a> {
             Mode::AfterFeature => Ok(self.after_feature(symbol)),
             Mode::AfterFeatureComma => self.after_feature_comma(alloc, symbol),
             Mode::Start => Ok(self.at_start(symbol)),
+            Mode::InConstraint => self.in_constraint(alloc, symbol),
+            Mode::BetweenClasses => Ok(self.between_classes(symbol)),
             Mode::AfterAt(node) => Ok(self.after_at(node, symbol)),
             Mode::AfterMark(node) => self.after_mark(alloc, node, symbol),
             Mode::AfterMarkedType => Ok(self.after_marked_type(symbol)),

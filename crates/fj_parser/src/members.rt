@@ -2,13 +2,12 @@ ghost use Rattle.std.specs.Prelude.{◌≡◌, ◌∷◌, [], ◌++◌, true, If
 ghost use Rattle.cfj_model.specs.Tokens.{OpenParen};
 ghost use Rattle.fj_parser.specs.Machine as spec;
 ghost use Rattle.fj_parser.specs.MachineViews.{machine_seen, GoesIn};
-ghost use Rattle.fj_parser.specs.Views.{symbol_seen, is_name_token};
+ghost use Rattle.fj_symbols.specs.Views.{symbol_seen, is_name_token};
 
 use crate::machine::{Machine, NO_NAME};
 use crate::mode::{Mode, Node};
-use crate::names::name_of;
-use crate::symbol::Symbol;
 use cfj_model::{Class, Colors, Constructor, Field, Items};
+use fj_symbols::{Symbol, name_of};
 use std::alloc::{AllocError, Global};
 use std::mem;
 
@@ -143,7 +142,7 @@ impl<'a> Machine<'a> {
     }
 
     fn push_class(&mut self, alloc: Global) -> Result<(), AllocError>
-        ensures { OnOk result (machine_seen self.new ≡ spec.behind (machine_seen self.old).features ((machine_seen self.old).classes ++ spec.class_of (machine_seen self.old) ∷ [])) }
+        ensures { OnOk result (machine_seen self.new ≡ spec.with_class (machine_seen self.old)) }
     {
         let name = name_of(alloc, self.name)?;
         let parent = name_of(alloc, self.parent)?;
@@ -161,6 +160,7 @@ impl<'a> Machine<'a> {
                 sends: Items::of(sends),
                 assigns: Items::of(assigns),
             },
+            methods: Items::of(Vec::new(alloc)),
         })?;
         self.class_colors = Colors::empty();
         self.colors = Colors::empty();
@@ -168,7 +168,7 @@ impl<'a> Machine<'a> {
         self.parent = NO_NAME;
         self.of = NO_NAME;
         self.last = NO_NAME;
-        self.mode = Mode::Start;
+        self.mode = Mode::BetweenClasses;
         Ok(())
     }
 }

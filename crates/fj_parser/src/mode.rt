@@ -27,8 +27,12 @@ pub enum Mode {
     AfterFeature,
     /// A comma between features.
     AfterFeatureComma,
-    /// The feature line, or a class.
+    /// The feature line, or a constraint.
     Start,
+    /// The word that begins a constraint, or some of its formula.
+    InConstraint,
+    /// A class.
+    BetweenClasses,
     /// The sign of a mark.
     AfterAt(Node),
     /// A mark.
@@ -90,12 +94,13 @@ pub enum Mode {
 }
 
 impl Mode {
-    /// Whether some identifier could stand next.
+    /// Whether some identifier could stand next, outside of a formula.
     pub fn takes_name(self) -> bool
         ensures { result ≡ takes_name self }
     {
         match self {
             Mode::Begin
+            | Mode::Start
             | Mode::AfterFeatures
             | Mode::AfterFeatureComma
             | Mode::AfterAt(_)

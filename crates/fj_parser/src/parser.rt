@@ -1,36 +1,26 @@
-ghost use Rattle.std.specs.Prelude.{◌≡◌, ℕ, ◌≤◌, List, length, true, None, Some, IfOk, Ok, Err, OnOk};
+ghost use Rattle.std.specs.Prelude.{◌≡◌, ℕ, ◌≤◌, List, [], length, true, None, Some, IfOk, Ok, Err, OnOk};
 ghost use Rattle.std.specs.Str.{IsUtf8};
 ghost use Rattle.cfj_model.specs.Faults.{IsFirstFault, IsTextOf};
-ghost use Rattle.cfj_model.specs.Names.{is_reserved};
 ghost use Rattle.cfj_model.specs.ProductLines.{ProductLine};
-ghost use Rattle.fj_parser.specs.Accepting.{IsAccepted};
-ghost use Rattle.fj_parser.specs.Counting.{Counted};
-ghost use Rattle.fj_parser.specs.Machine.{is_read};
-ghost use Rattle.fj_parser.specs.MachineViews.{machine_seen, IsRoomy};
+ghost use Rattle.fj_parser.specs.Accepting.{IsAccepted, IsRefused};
 ghost use Rattle.fj_parser.specs.Answers.{IsReadAs, IsRefusedAs};
-ghost use Rattle.fj_parser.specs.Reading.{IsReading, fault_kind, fault_place, of_parts, token_read};
-ghost use Rattle.fj_parser.specs.Views.{symbol_seen, tally_seen};
+ghost use Rattle.fj_parser.specs.Built.{built};
+ghost use Rattle.fj_parser.specs.Counting.{Counted};
+ghost use Rattle.fj_parser.specs.Machine.{reader, stands_for};
+ghost use Rattle.fj_parser.specs.MachineViews.{machine_seen, IsRoomy};
+ghost use Rattle.fj_parser.specs.Reading.{IsReading, fault_kind, fault_place, of_parts};
+ghost use Rattle.fj_parser.specs.Views.{tally_seen};
+ghost use Rattle.fj_symbols.specs.Views.{is_read, symbol_seen};
 
 use crate::accept::accept;
 use crate::machine::Machine;
-use crate::symbol::{Symbol, mark_symbol, reserved_symbol};
 use crate::tally::Tally;
-use cfj_model::{Class, FaultKind, FeatureModel, Items, Name, ParseFault, Project};
-use fj_lexer::{LexFault, Lexer, Token, TokenKind};
+use cfj_model::{Class, FaultKind, FeatureModel, ParseFault, Project};
+use fj_lexer::{LexFault, Lexer};
+use fj_symbols::{Symbol, symbol_of};
 use std::alloc::Global;
 use std::str;
 use std::sync::Arc;
-
-fn symbol_of<'a>(token: Token<'a>) -> Symbol<'a>
-    requires { token.kind ≡ TokenKind.Reserved → is_reserved token.text.now ≡ true }
-    ensures { symbol_seen result ≡ token_read token.entry.kind token.entry.text.now }
-{
-    match token.kind {
-        TokenKind::Word => Symbol::Id(token.text),
-        TokenKind::Reserved => reserved_symbol(token.text),
-        TokenKind::Mark => mark_symbol(token.text),
-    }
-}
 
 fn refusal(fault: LexFault) -> ParseFault
     ensures { result ≡ ParseFault.At (fault_place fault) (fault_kind fault) }
@@ -57,10 +47,10 @@ fn take<'a>(
 ) -> Result<(), ParseFault>
     requires read { is_read (symbol_seen symbol) ≡ true }
     requires room { IsRoomy (machine_seen machine.old) }
-    ensures ok { OnOk result (IsAccepted
-        (machine_seen machine.old) (tally_seen tally.old) (symbol_seen symbol.entry) (machine_seen machine.new) (tally_seen tally.new) None) }
-    ensures fault { (place : ℕ) (kind : _) → result ≡ Err (ParseFault.At place kind) → (place ≡ at) × IsAccepted
-        (machine_seen machine.old) (tally_seen tally.old) (symbol_seen symbol.entry) (machine_seen machine.new) (tally_seen tally.new) (Some kind) }
+    ensures ok { OnOk result (IsAccepted reader
+        (machine_seen machine.old) (tally_seen tally.old) (symbol_seen symbol.entry) (machine_seen machine.new) (tally_seen tally.new)) }
+    ensures fault { (place : ℕ) (kind : _) → result ≡ Err (ParseFault.At place kind) → (place ≡ at) × IsRefused reader
+        (machine_seen machine.old) (tally_seen tally.old) (symbol_seen symbol.entry) 0 kind }
 {
     match accept(alloc, machine, tally, symbol)? {
         Some(kind) => Err(ParseFault::At { at, kind }),
@@ -76,10 +66,10 @@ fn read_tokens<'a>(
     tally: &mut Tally<'a>,
 ) -> Result<(), ParseFault>
     requires utf8 { IsUtf8 lexer.old.text.now }
-    requires reading { IsReading lexer.old.text.now lexer.old.rest.now (machine_seen machine.old) (tally_seen tally.old) }
+    requires reading { IsReading built reader lexer.old.text.now lexer.old.rest.now (machine_seen machine.old) (tally_seen tally.old) }
     requires counted { Counted (machine_seen machine.old) (tally_seen tally.old) }
-    ensures read { OnOk result (IsTextOf lexer.old.text.now (of_parts machine.new.features machine.new.classes.items)) }
-    ensures fault { (at : ℕ) (kind : _) → result ≡ Err (ParseFault.At at kind) → IsFirstFault lexer.old.text.now at kind }
+    ensures read { OnOk result (IsTextOf built lexer.old.text.now (stands_for (machine_seen machine.new))) }
+    ensures fault { (at : ℕ) (kind : _) → result ≡ Err (ParseFault.At at kind) → IsFirstFault built lexer.old.text.now at kind }
 {
     'tokens: while let Some(next) = lexer.next() {
         let token = match next {
@@ -91,10 +81,10 @@ fn read_tokens<'a>(
     take(alloc, machine, tally, Symbol::End, lexer.text.len())
 }
 
-/// The features and classes of a text.
-fn read_parts(alloc: Global, text: &str) -> Result<(Vec<Name>, Vec<Class>), ParseFault>
-    ensures read { IfOk result (λ parts. IsTextOf text.now (of_parts parts.0.items parts.1.items)) }
-    ensures fault { (at : ℕ) (kind : _) → result ≡ Err (ParseFault.At at kind) → IsFirstFault text.now at kind }
+/// The feature model and the classes of a text.
+fn read_parts(alloc: Global, text: &str) -> Result<(FeatureModel, Vec<Class>), ParseFault>
+    ensures read { IfOk result (λ parts. IsTextOf built text.now (of_parts parts.0.features parts.0.constraints parts.1.items)) }
+    ensures fault { (at : ℕ) (kind : _) → result ≡ Err (ParseFault.At at kind) → IsFirstFault built text.now at kind }
 {
     let mut lexer = Lexer::new(text);
     let mut machine = Machine::new(alloc);
@@ -104,8 +94,8 @@ fn read_parts(alloc: Global, text: &str) -> Result<(Vec<Name>, Vec<Class>), Pars
 }
 
 fn read_project(alloc: Global, text: &[u8]) -> Result<Project, ParseFault>
-    ensures read { IfOk result (λ project. IsTextOf text.now project) }
-    ensures fault { (at : ℕ) (kind : _) → result ≡ Err (ParseFault.At at kind) → IsFirstFault text.now at kind }
+    ensures read { IfOk result (λ project. IsTextOf built text.now project) }
+    ensures fault { (at : ℕ) (kind : _) → result ≡ Err (ParseFault.At at kind) → IsFirstFault built text.now at kind }
 {
     let text = match str::from_utf8(text) {
         Ok(text) => text,
@@ -116,9 +106,8 @@ fn read_project(alloc: Global, text: &[u8]) -> Result<Project, ParseFault>
             });
         }
     };
-    let (names, classes) = read_parts(alloc, text)?;
-    let features = Items::of(names);
-    let model = Arc::new(alloc, FeatureModel { features })?;
+    let (model, classes) = read_parts(alloc, text)?;
+    let model = Arc::new(alloc, model)?;
     Ok(Project::of(model, classes)?)
 }
 
@@ -126,11 +115,11 @@ fn read_project(alloc: Global, text: &[u8]) -> Result<Project, ParseFault>
 pub fn parse_project(alloc: Global, text: &[u8]) -> Result<Project, ParseFault>
     requires { length text.now ≤ 4194304 }
     // What is read is the value of a text of the grammar, and every text of the grammar is read.
-    ensures read { IfOk result (λ project. IsTextOf text.now project) }
-    ensures only { (line : ProductLine) → IsTextOf text.now line → IsReadAs line result }
+    ensures read { IfOk result (λ project. IsTextOf built text.now project) }
+    ensures only { (line : ProductLine) → IsTextOf built text.now line → IsReadAs line result }
     // A fault is the first one, and every first fault is told.
-    ensures fault { (at : ℕ) (kind : _) → result ≡ Err (ParseFault.At at kind) → IsFirstFault text.now at kind }
-    ensures first { (at : ℕ) (kind : _) → IsFirstFault text.now at kind → IsRefusedAs at kind result }
+    ensures fault { (at : ℕ) (kind : _) → result ≡ Err (ParseFault.At at kind) → IsFirstFault built text.now at kind }
+    ensures first { (at : ℕ) (kind : _) → IsFirstFault built text.now at kind → IsRefusedAs at kind result }
 {
     read_project(alloc, text)
 }

@@ -1,17 +1,34 @@
-use Rattle.std.proofs.Common.{◌≡◌, Some, ◌∙◌, ap, sym, subst}
+use Rattle.std.proofs.Common.{◌≡◌, Some, true, ◌∙◌, ap, sym, subst}
 use Rattle.cfj_model.specs.Roles.{broken_by}
-use Rattle.fj_parser.specs.Accepting.{IsAccepted}
+use Rattle.fj_symbols.specs.Views.{is_identifier_role, symbol_seen}
+use Rattle.fj_parser.specs.Readers.{misplaced_as}
 use Rattle.fj_parser.specs.Machine.{role}
 use Rattle.fj_parser.specs.MachineViews.{machine_seen}
-use Rattle.fj_parser.specs.Views.{symbol_seen, tally_seen}
-use Rattle.fj_parser.proofs.Accepted.{worst_accepted}
+use Rattle.fj_parser.specs.Views.{tally_seen}
+use Rattle.fj_parser.proofs.Accepted.{broken_refused, misplaced_refused, not_gone, cannot_go, role_named}
 use Rattle.fj_parser.proofs.accept.accept.Goals as goal
 
-pub returns-in-Some : goal.returns-in-Some
-returns-in-Some c =
+pub broken_by-requires : goal.broken_by-requires
+broken_by-requires c =
+    subst (λ r. is_identifier_role r ≡ true) (sym c.role-role.ensures) (role_named (machine_seen c.args.machine.now) (symbol_seen c.args.symbol) c.requires.read)
+
+pub returns-then-branch : goal.returns-then-branch
+returns-then-branch c =
     let s = machine_seen c.args.machine.now in
     let t = tally_seen c.args.tally.now in
     let token = symbol_seen c.args.symbol in
     let breaks : broken_by t (role s token) ≡ Some c.in-Some.broken =
-    ap (broken_by t) (sym c.role_of-role.ensures) ∙ sym c.in_ok-broken.ensures ∙ c.in-Some.is in
-    subst (λ kind. IsAccepted s t token s t (Some kind)) (sym c.worst.ensures) (worst_accepted s s t t token c.in-Some.broken breaks)
+    ap (broken_by t) (sym c.role-role.ensures) ∙ sym c.in_ok-broken.ensures ∙ c.in-Some.is in
+    broken_refused s t token c.in-Some.broken (sym c.in_ok-goes.ensures ∙ c.if-branch.true) breaks
+
+pub returns-in-Some : goal.returns-in-Some
+returns-in-Some c =
+    let s = machine_seen c.args.machine.now in
+    let token = symbol_seen c.args.symbol in
+    misplaced_refused s (tally_seen c.args.tally.now) token c.misplaced.result (cannot_go s token (sym c.in_ok-goes.ensures ∙ c.if-branch.false)) (c.misplaced.ensures ∙ ap (λ b. misplaced_as b token) c.takes_name-takes_name.ensures)
+
+pub returns-then-not-branch : goal.returns-then-not-branch
+returns-then-not-branch c =
+    let s = machine_seen c.args.machine.now in
+    let token = symbol_seen c.args.symbol in
+    misplaced_refused s (tally_seen c.args.tally.now) token c.misplaced-then-not-branch.result (not_gone _ s _ token c.if-not-branch.true c.in_ok-step.ensures) (c.misplaced-then-not-branch.ensures ∙ ap (λ b. misplaced_as b token) c.takes_name-takes_name.ensures)

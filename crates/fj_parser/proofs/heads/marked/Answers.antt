@@ -1,6 +1,6 @@
 use Rattle.std.proofs.Common.{ℕ, Option, bit_or, sym, ap, ◌∙◌}
 use Rattle.std.specs.Int.Bits.{or_zero_r}
-use Rattle.cfj_model.specs.Grammar.{color_at}
+use Rattle.cfj_model.specs.Marks.{color_at}
 use Rattle.fj_parser.proofs.heads.marked.Goals as goal
 
 pub returns-in-None : goal.returns-in-None

@@ -1,0 +1,32 @@
+ghost use Rattle.std.specs.Prelude.{◌≡◌};
+ghost use Rattle.fj_parser.specs.Machine.{name_role, token_role};
+ghost use Rattle.fj_symbols.specs.Views.{role_seen, symbol_seen};
+
+use crate::mode::{Mode, Node};
+use fj_symbols::{Role, Symbol};
+
+/// What an identifier is behind what was read last.
+fn name_role<'a>(mode: Mode, name: &'a str) -> Role<'a>
+    ensures { role_seen result ≡ name_role mode name.now }
+{
+    match mode {
+        Mode::AfterFeatures | Mode::AfterFeatureComma => Role::FeatureName(name),
+        Mode::AfterAt(_) => Role::MarkName(name),
+        Mode::AfterClass => Role::ClassName(name),
+        Mode::AfterType | Mode::AfterMarkedType => Role::FieldName(name),
+        Mode::AfterParamType => Role::ParamName(name),
+        Mode::InSends | Mode::AfterSendComma | Mode::AfterMark(Node::Send) => Role::SentName(name),
+        Mode::AfterThisDot => Role::AssignedName(name),
+        _ => Role::UsedName(name),
+    }
+}
+
+/// What a token is behind what was read last, outside of a formula.
+pub fn role_of<'a>(mode: Mode, symbol: Symbol<'a>) -> Role<'a>
+    ensures { role_seen result ≡ token_role mode (symbol_seen symbol.entry) }
+{
+    match symbol {
+        Symbol::Id(name) => name_role(mode, name),
+        _ => Role::Plain,
+    }
+}

@@ -1,0 +1,326 @@
+ghost use Rattle.std.specs.Prelude.{◌≡◌, ◌∷◌, [], true, not, IfOk};
+ghost use Rattle.cfj_model.specs.ProductLines.{has};
+ghost use Rattle.cfj_model.specs.Names.{is_identifier, is_name};
+ghost use Rattle.cfj_model.specs.Roles as spec;
+ghost use Rattle.fj_parser.specs.Views.{broken_in_list, tally_seen};
+ghost use Rattle.fj_symbols.specs.Views.{is_identifier_role, role_seen};
+
+use crate::tally::Tally;
+use cfj_model::{FaultKind, LimitKind, MOST_NAME_BYTES};
+use fj_symbols::{Role, name_of};
+use std::alloc::{AllocError, Global};
+
+/// The most features in a project.
+const MOST_FEATURES: usize = 128;
+
+/// The most nodes in all formulas of a project.
+const MOST_FORMULA_NODES: usize = 4096;
+
+/// The most constructs open at once in an expression or a formula.
+const MOST_NEST: usize = 64;
+
+/// The most classes in a project.
+const MOST_CLASSES: usize = 1024;
+
+/// The most fields in a class.
+const MOST_FIELDS: usize = 64;
+
+/// The most methods in a class.
+const MOST_METHODS: usize = 256;
+
+/// The most parameters of a method.
+const MOST_PARAMS: usize = 16;
+
+/// The most items in each list of a constructor.
+const MOST_IN_CTOR: usize = 1024;
+
+/// The most nodes in a body.
+const MOST_NODES: usize = 1024;
+
+/// The most declarations, sent names, assignments and nodes in a project.
+const MOST_SIZE: usize = 1_000_000;
+
+fn is_long(name: &str) -> bool
+    ensures { result ≡ spec.is_long name.now }
+{
+    name.len() > MOST_NAME_BYTES
+}
+
+fn twice(alloc: Global, name: &str) -> Result<FaultKind, AllocError>
+    requires { is_name name.now ≡ true }
+    ensures { IfOk result (λ kind. kind ≡ FaultKind.Twice name.now) }
+{
+    Ok(FaultKind::Twice(name_of(alloc, name)?))
+}
+
+/// So many constructs open at once are too many.
+fn is_deep(depth: usize) -> bool
+    ensures { result ≡ (spec.past_nest depth).0 }
+{
+    depth > MOST_NEST
+}
+
+/// The rules and limits that a token can break.
+impl<'a> Tally<'a> {
+    /// The rule or limit that a token in this role breaks.
+    pub fn broken_by(&self, alloc: Global, role: Role<'a>) -> Result<Option<FaultKind>, AllocError>
+        requires { is_identifier_role (role_seen role) ≡ true }
+        ensures { IfOk result (λ fault. fault ≡ spec.broken_by (tally_seen self.now) (role_seen role.entry)) }
+    {
+        match role {
+            Role::FeatureName(name) => self.broken_by_feature(alloc, name),
+            Role::MarkName(name) => self.broken_by_mark(alloc, name),
+            Role::FormulaName(name) => self.broken_by_formula_name(alloc, name),
+            Role::ClassName(name) => self.broken_by_class(alloc, name),
+            Role::FieldName(name) => self.broken_by_field(alloc, name),
+            Role::MethodName(name) => self.broken_by_method(alloc, name),
+            Role::ParamName(name) => self.broken_by_param(alloc, name),
+            Role::MethodParamName(name) => self.broken_by_method_param(alloc, name),
+            Role::SentName(name) => Ok(self.broken_in_list(name, self.sends)),
+            Role::AssignedName(name) => Ok(self.broken_in_list(name, self.assigns)),
+            Role::VarName(name) => Ok(self.broken_by_var(name)),
+            Role::UsedName(name) => Ok(self.broken_by_used(name)),
+            Role::FormulaNode => Ok(self.broken_by_formula()),
+            Role::FormulaOpens(depth) => Ok(self.broken_by_formula_opens(depth)),
+            Role::Opens(depth) => Ok(self.broken_by_opens(depth)),
+            Role::Casts(depth) => Ok(self.broken_by_cast(depth)),
+            Role::Node => Ok(self.broken_by_node()),
+            Role::Plain => Ok(None),
+        }
+    }
+
+    fn has_full_size(&self) -> bool
+        ensures { result ≡ (spec.past_size (tally_seen self.now)).0 }
+    {
+        self.size >= MOST_SIZE
+    }
+
+    fn broken_by_size(&self) -> Option<FaultKind>
+        ensures { result ≡ spec.first_of (spec.past_size (tally_seen self.now) ∷ []) }
+    {
+        if self.has_full_size() {
+            return Some(FaultKind::Limit(LimitKind::Size));
+        }
+        None
+    }
+
+    fn broken_by_feature(&self, alloc: Global, name: &str) -> Result<Option<FaultKind>, AllocError>
+        requires { is_identifier name.now ≡ true }
+        ensures { IfOk result (λ fault. fault ≡ spec.broken_by (tally_seen self.now) (spec.feature_name name.now)) }
+    {
+        if is_long(name) {
+            return Ok(Some(FaultKind::Limit(LimitKind::Name)));
+        }
+        if self.features.has(name) {
+            return Ok(Some(twice(alloc, name)?));
+        }
+        if self.features.len() >= MOST_FEATURES {
+            return Ok(Some(FaultKind::Limit(LimitKind::Features)));
+        }
+        Ok(None)
+    }
+
+    fn is_unknown(&self, name: &str) -> bool
+        ensures { result ≡ not (has self.now.features name.now) }
+    {
+        !self.features.has(name)
+    }
+
+    fn broken_by_mark(&self, alloc: Global, name: &str) -> Result<Option<FaultKind>, AllocError>
+        requires { is_identifier name.now ≡ true }
+        ensures { IfOk result (λ fault. fault ≡ spec.broken_by (tally_seen self.now) (spec.mark_name name.now)) }
+    {
+        if is_long(name) {
+            return Ok(Some(FaultKind::Limit(LimitKind::Name)));
+        }
+        if self.is_unknown(name) {
+            return Ok(Some(FaultKind::NoFeature(name_of(alloc, name)?)));
+        }
+        if self.marks.has(name) {
+            return Ok(Some(twice(alloc, name)?));
+        }
+        Ok(None)
+    }
+
+    fn broken_by_formula_name(
+        &self,
+        alloc: Global,
+        name: &str,
+    ) -> Result<Option<FaultKind>, AllocError>
+        requires { is_identifier name.now ≡ true }
+        ensures { IfOk result (λ fault. fault ≡ spec.broken_by (tally_seen self.now) (spec.formula_name name.now)) }
+    {
+        if is_long(name) {
+            return Ok(Some(FaultKind::Limit(LimitKind::Name)));
+        }
+        if self.is_unknown(name) {
+            return Ok(Some(FaultKind::NoFeature(name_of(alloc, name)?)));
+        }
+        Ok(self.broken_by_formula())
+    }
+
+    fn broken_by_formula(&self) -> Option<FaultKind>
+        ensures { result ≡ spec.broken_by (tally_seen self.now) spec.formula_node }
+    {
+        if self.formula_nodes >= MOST_FORMULA_NODES {
+            return Some(FaultKind::Limit(LimitKind::Formula));
+        }
+        None
+    }
+
+    fn broken_by_formula_opens(&self, depth: usize) -> Option<FaultKind>
+        ensures { result ≡ spec.broken_by (tally_seen self.now) (spec.formula_opens depth) }
+    {
+        if self.formula_nodes >= MOST_FORMULA_NODES {
+            return Some(FaultKind::Limit(LimitKind::Formula));
+        }
+        if is_deep(depth) {
+            return Some(FaultKind::Limit(LimitKind::Nest));
+        }
+        None
+    }
+
+    fn broken_by_class(&self, alloc: Global, name: &str) -> Result<Option<FaultKind>, AllocError>
+        requires { is_identifier name.now ≡ true }
+        ensures { IfOk result (λ fault. fault ≡ spec.broken_by (tally_seen self.now) (spec.class_name name.now)) }
+    {
+        if name == "Object" {
+            return Ok(Some(FaultKind::Reserved));
+        }
+        if is_long(name) {
+            return Ok(Some(FaultKind::Limit(LimitKind::Name)));
+        }
+        if self.classes.has(name) {
+            return Ok(Some(twice(alloc, name)?));
+        }
+        if self.classes.len() >= MOST_CLASSES {
+            return Ok(Some(FaultKind::Limit(LimitKind::Classes)));
+        }
+        Ok(self.broken_by_size())
+    }
+
+    fn broken_by_field(&self, alloc: Global, name: &str) -> Result<Option<FaultKind>, AllocError>
+        requires { is_identifier name.now ≡ true }
+        ensures { IfOk result (λ fault. fault ≡ spec.broken_by (tally_seen self.now) (spec.field_name name.now)) }
+    {
+        if is_long(name) {
+            return Ok(Some(FaultKind::Limit(LimitKind::Name)));
+        }
+        if self.fields.has(name) {
+            return Ok(Some(twice(alloc, name)?));
+        }
+        if self.fields.len() >= MOST_FIELDS {
+            return Ok(Some(FaultKind::Limit(LimitKind::Fields)));
+        }
+        Ok(self.broken_by_size())
+    }
+
+    fn broken_by_method(&self, alloc: Global, name: &str) -> Result<Option<FaultKind>, AllocError>
+        requires { is_identifier name.now ≡ true }
+        ensures { IfOk result (λ fault. fault ≡ spec.broken_by (tally_seen self.now) (spec.method_name name.now)) }
+    {
+        if is_long(name) {
+            return Ok(Some(FaultKind::Limit(LimitKind::Name)));
+        }
+        if self.methods.has(name) {
+            return Ok(Some(twice(alloc, name)?));
+        }
+        if self.methods.len() >= MOST_METHODS {
+            return Ok(Some(FaultKind::Limit(LimitKind::Methods)));
+        }
+        Ok(self.broken_by_size())
+    }
+
+    fn broken_by_param(&self, alloc: Global, name: &str) -> Result<Option<FaultKind>, AllocError>
+        requires { is_identifier name.now ≡ true }
+        ensures { IfOk result (λ fault. fault ≡ spec.broken_by (tally_seen self.now) (spec.param_name name.now)) }
+    {
+        if is_long(name) {
+            return Ok(Some(FaultKind::Limit(LimitKind::Name)));
+        }
+        if self.params.has(name) {
+            return Ok(Some(twice(alloc, name)?));
+        }
+        if self.params.len() >= MOST_IN_CTOR {
+            return Ok(Some(FaultKind::Limit(LimitKind::Ctor)));
+        }
+        Ok(self.broken_by_size())
+    }
+
+    fn broken_by_method_param(
+        &self,
+        alloc: Global,
+        name: &str,
+    ) -> Result<Option<FaultKind>, AllocError>
+        requires { is_identifier name.now ≡ true }
+        ensures { IfOk result (λ fault. fault ≡ spec.broken_by (tally_seen self.now) (spec.method_param_name name.now)) }
+    {
+        if is_long(name) {
+            return Ok(Some(FaultKind::Limit(LimitKind::Name)));
+        }
+        if self.params.has(name) {
+            return Ok(Some(twice(alloc, name)?));
+        }
+        if self.params.len() >= MOST_PARAMS {
+            return Ok(Some(FaultKind::Limit(LimitKind::Params)));
+        }
+        Ok(self.broken_by_size())
+    }
+
+    fn broken_in_list(&self, name: &str, before: usize) -> Option<FaultKind>
+        ensures { result ≡ broken_in_list (tally_seen self.now) before name.now }
+    {
+        if is_long(name) {
+            return Some(FaultKind::Limit(LimitKind::Name));
+        }
+        if before >= MOST_IN_CTOR {
+            return Some(FaultKind::Limit(LimitKind::Ctor));
+        }
+        self.broken_by_size()
+    }
+
+    fn broken_by_var(&self, name: &str) -> Option<FaultKind>
+        ensures { result ≡ spec.broken_by (tally_seen self.now) (spec.var_name name.now) }
+    {
+        if is_long(name) {
+            return Some(FaultKind::Limit(LimitKind::Name));
+        }
+        self.broken_by_node()
+    }
+
+    fn broken_by_used(&self, name: &str) -> Option<FaultKind>
+        ensures { result ≡ spec.broken_by (tally_seen self.now) (spec.used_name name.now) }
+    {
+        if is_long(name) {
+            return Some(FaultKind::Limit(LimitKind::Name));
+        }
+        None
+    }
+
+    fn broken_by_opens(&self, depth: usize) -> Option<FaultKind>
+        ensures { result ≡ spec.broken_by (tally_seen self.now) (spec.opens depth) }
+    {
+        if is_deep(depth) {
+            return Some(FaultKind::Limit(LimitKind::Nest));
+        }
+        None
+    }
+
+    fn broken_by_cast(&self, depth: usize) -> Option<FaultKind>
+        ensures { result ≡ spec.broken_by (tally_seen self.now) (spec.casts depth) }
+    {
+        if is_deep(depth) {
+            return Some(FaultKind::Limit(LimitKind::Nest));
+        }
+        self.broken_by_node()
+    }
+
+    fn broken_by_node(&self) -> Option<FaultKind>
+        ensures { result ≡ spec.broken_by (tally_seen self.now) spec.node }
+    {
+        if self.nodes >= MOST_NODES {
+            return Some(FaultKind::Limit(LimitKind::Nodes));
+        }
+        self.broken_by_size()
+    }
+}

@@ -12,8 +12,8 @@ use Rattle.expression_reader.specs.declared.frame.Head.{Head}
 use Rattle.expression_reader.specs.declared.frame.Head.TheVariants.{OfCall, OfNew}
 use Rattle.expression_reader.specs.declared.mode.Mode.{Mode}
 use Rattle.expression_reader.specs.declared.mode.Mode.TheVariants.{Begin, FirstArg, InMarks, AfterAt, Paren, ParenName, ParenClosed, After, AfterDot, AfterMember, AfterNew, AfterClass, Done}
-use Rattle.expression_reader.specs.declared.reader.Settling.{Settling}
-use Rattle.expression_reader.specs.declared.reader.Settling.TheVariants.{Stays, Bracket, Cast}
+use Rattle.expression_reader.specs.declared.roles.Settling.{Settling}
+use Rattle.expression_reader.specs.declared.roles.Settling.TheVariants.{Stays, Bracket, Cast}
 
 -- What is open round the place that is read, the innermost first; what was read last; and the next slot.
 pub record State : Type 0 where
@@ -53,26 +53,37 @@ begin fs n NewWord = go fs AfterNew n
 begin fs n OpenParen = go fs Paren n
 begin fs n _ = None
 
--- an expression ends at `)`, and so do the casts round it
+-- The casts round a whole expression end with it: the expression with them, in the frames round it.
+abbrev pub uncast : Expr → List Frame → Expr × List Frame
+uncast x [] = (x, [])
+uncast x (InBracket ∷ fs) = (x, InBracket ∷ fs)
+uncast x (InCast s c ∷ fs) = uncast (e.Cast s c x) fs
+uncast x (InArgs h before colors ∷ fs) = (x, InArgs h before colors ∷ fs)
+
+-- an expression, by itself or an argument, ends at `)`
+abbrev pub close_in : Expr → ℕ → List Frame → Option State
+close_in x n (InBracket ∷ fs) = go fs (After x) n
+close_in x n (InArgs h before colors ∷ fs) = go fs (After (applied h (before ++ colored_arg colors x ∷ []))) n
+close_in x n _ = None
+
+-- an argument ends at a comma
+abbrev pub comma_in : Expr → ℕ → List Frame → Option State
+comma_in x n (InArgs h before colors ∷ fs) = go fs (InMarks h (before ++ colored_arg colors x ∷ []) 0) n
+comma_in x n _ = None
+
+-- the whole expression ends at the token behind it
+abbrev pub finish_in : Expr → List Frame → Option State
+finish_in x [] = Some (done x)
+finish_in x _ = None
+
 abbrev pub close : Expr → ℕ → List Frame → Option State
-close x n [] = None
-close x n (InBracket ∷ fs) = go fs (After x) n
-close x n (InCast s c ∷ fs) = close (e.Cast s c x) n fs
-close x n (InArgs h before colors ∷ fs) = go fs (After (applied h (before ++ colored_arg colors x ∷ []))) n
+close x n fs = let u = uncast x fs in close_in u.0 n u.1
 
--- at a comma
 abbrev pub comma : Expr → ℕ → List Frame → Option State
-comma x n [] = None
-comma x n (InBracket ∷ fs) = None
-comma x n (InCast s c ∷ fs) = comma (e.Cast s c x) n fs
-comma x n (InArgs h before colors ∷ fs) = go fs (InMarks h (before ++ colored_arg colors x ∷ []) 0) n
+comma x n fs = let u = uncast x fs in comma_in u.0 n u.1
 
--- at the token behind the whole expression
 abbrev pub finish : Expr → List Frame → Option State
-finish x [] = Some (done x)
-finish x (InBracket ∷ fs) = None
-finish x (InCast s c ∷ fs) = finish (e.Cast s c x) fs
-finish x (InArgs h before colors ∷ fs) = None
+finish x fs = let u = uncast x fs in finish_in u.0 u.1
 
 -- behind an expression
 abbrev pub after : Expr → List Frame → ℕ → Token → Option State
@@ -295,6 +306,14 @@ is_done_mode _ = false
 
 abbrev pub is_done : State → Bool
 is_done s = is_done_mode s.mode
+
+-- the expression, where it is read
+abbrev pub expression_in : Mode → Option Expr
+expression_in (Done x) = Some x
+expression_in _ = None
+
+abbrev pub expression : State → Option Expr
+expression s = expression_in s.mode
 
 abbrev pub is_read_whole : Option State → Bool
 is_read_whole None = false

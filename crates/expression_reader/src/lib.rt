@@ -5,9 +5,14 @@
 //! an expression begins may be a cast's, which is known three tokens later; so up to three tokens wait at once.
 #![tactic(auto)]
 
+mod arguments;
+mod chains;
 mod frame;
 mod mode;
+mod operands;
 mod reader;
+mod roles;
 mod stack;
 
-pub use reader::{ExpressionReader, Settling};
+pub use reader::ExpressionReader;
+pub use roles::Settling;

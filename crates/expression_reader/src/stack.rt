@@ -1,4 +1,4 @@
-ghost use Rattle.std.specs.Prelude.{◌≡◌, [], ◌∷◌, OnOk, MatchOption, length};
+ghost use Rattle.std.specs.Prelude.{◌≡◌, [], ◌∷◌, OnOk, MatchOption, reverse};
 
 use std::alloc::{AllocError, Global};
 use std::marker::Model;
@@ -30,11 +30,11 @@ impl<T> Stack<T> {
         }
     }
 
-    /// How many items it has.
-    pub fn len(&self) -> usize
-        ensures { result ≡ length self.now }
+    /// The items; that on top is the last.
+    pub fn slice(&self) -> &[T]
+        ensures { reverse result.now ≡ self.now }
     {
-        self.items.len()
+        self.items.as_slice()
     }
 
     /// Takes the item on top.

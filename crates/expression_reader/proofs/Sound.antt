@@ -73,7 +73,7 @@ record ReadMore (fs : List (List ℕ)) (ts : List Token) (frames : List Frame) :
   goes : Accepts fs rest (at frames (After value) slot)
 
 -- a machine that is stuck doesn't get there
-never : {A : Type 0} → false ≡ true → A
+pub never : {A : Type 0} → false ≡ true → A
 never h = let no : ⊥ = cc h in absurd no
 
 -- a bracket's text goes on with `)`, and then the chain goes on

@@ -142,7 +142,7 @@ each_once Cast ps true r = let l = length-append (map as_cast ps) [] in omega (a
 each_once Cast ps false r = let l = length-append (map as_cast ps) (r ∷ []) in omega (arith, l, length-map ps as_cast)
 
 -- The tokens that a run has read are those whose roles are settled, and those that wait.
-run_long : (fs : List (List ℕ)) (ts : List Token) (s n : State) → (run fs ts s).0 ≡ Some n → length (run fs ts s).1 + length (pending n) ≡ length (pending s) + length ts
+pub run_long : (fs : List (List ℕ)) (ts : List Token) (s n : State) → (run fs ts s).0 ≡ Some n → length (run fs ts s).1 + length (pending n) ≡ length (pending s) + length ts
 unfolding run
 run_long fs [] s n h = let same : s ≡ n = cc h in let l : length (pending s) ≡ length (pending n) = ap (λ (x : State). length (pending x)) same in omega arith
 run_long fs (t ∷ ts) s n h = by (λ x g. run_long fs ts x n g) (step fs s t) (λ x g. waits_on fs s x t g) h

@@ -1,18 +1,18 @@
 -- What a tree spells is read as what it stands for, in its roles.
-use Rattle.std.proofs.Common.{◌≡◌, ℕ, ◌+◌, List, [], ◌∷◌, ◌++◌, Option, Some, None, refl, sym, ◌∙◌, ap, append_assoc}
-use Rattle.std.specs.Prelude.{codes, bit_or}
+use Rattle.std.proofs.Common.{◌≡◌, ℕ, ◌+◌, List, [], ◌∷◌, ◌++◌, Option, Some, None, refl, ◌∙◌, ap, append_assoc}
+use Rattle.std.specs.Prelude.{bit_or}
 use Rattle.cfj_model.specs.declared.expr.Arg.{Arg}
 use Rattle.cfj_model.specs.declared.expr.Expr.{Expr}
 use Rattle.cfj_model.specs.declared.expr.Expr.TheVariants as e
 use Rattle.cfj_model.specs.Marks.{spell_marks, roles_marks, color_of, colored, colors_of}
-use Rattle.cfj_model.specs.Tokens.{Token, Id, NewWord, ThisWord, OpenParen, CloseParen, Comma, Dot, At, Semicolon}
+use Rattle.cfj_model.specs.Tokens.{Token, CloseParen, Comma, Dot, Semicolon}
 use Rattle.cfj_model.specs.Roles.{Role, casts, node, opens, plain, used_name, var_name, mark_name}
 use Rattle.cfj_model.specs.ExpressionGrammar.{ExprTree, cast, chain, StartTree, variable, this_word, made, bracket, StepsTree, stop, get, call, ArgsTree, no_args, first_arg, MoreArgsTree, no_more, next_arg, spell_expr, spell_start, spell_steps, spell_args, spell_more_args, roles_expr, roles_start, roles_steps, roles_args, roles_more_args, value_expr, value_start, value_steps, value_args, value_more_args}
 use Rattle.expression_reader.specs.declared.frame.Frame.{Frame}
 use Rattle.expression_reader.specs.declared.frame.Frame.TheVariants.{InBracket, InCast, InArgs}
 use Rattle.expression_reader.specs.declared.frame.Head.{Head}
 use Rattle.expression_reader.specs.declared.frame.Head.TheVariants.{OfCall, OfNew}
-use Rattle.expression_reader.specs.declared.mode.Mode.TheVariants.{Begin, FirstArg, InMarks, AfterAt, Paren, ParenName, ParenClosed, After, AfterMember}
+use Rattle.expression_reader.specs.declared.mode.Mode.TheVariants.{Begin, FirstArg, InMarks, Paren, ParenClosed, After, AfterMember}
 use Rattle.expression_reader.specs.Machine.{State, at, start, done, applied, colored_arg, open_frames, Run, with_roles, then_run, run}
 
 -- the texts that may follow an expression
@@ -187,7 +187,7 @@ mutual
       ≡ on_roles (λ q. roles_args (open_frames frames + 1) args (plain ∷ q)) (run fs ts (at frames (After (applied h (value_args fs n args).0)) (value_args fs n args).1))
   args_run fs no_args ts h frames n = refl
   args_run fs (first_arg ms t more) ts h frames n =
-      begins_first fs ms t (spell_more_args more (CloseParen ∷ ts)) h frames n 
+      begins_first fs ms t (spell_more_args more (CloseParen ∷ ts)) h frames n
       ∙ arg_runs fs ms t more ts h [] frames n _ (expr_runs fs t (spell_more_args more (CloseParen ∷ ts)) (ends_more more ts) (InArgs h [] (colors_of fs ms) ∷ frames) n) (more_run fs more ts h [] (colors_of fs ms) frames (value_expr fs n t).0 (value_expr fs n t).1)
 
   more_run : (fs : List (List ℕ)) (more : MoreArgsTree) (ts : List Token) (h : Head) (before : List Arg) (colors : ℕ) (frames : List Frame) (x : Expr) (n : ℕ) →
@@ -195,7 +195,7 @@ mutual
       ≡ on_roles (λ q. roles_more_args (open_frames frames + 1) more (plain ∷ q)) (run fs ts (at frames (After (applied h (value_more_args fs n (before ++ colored_arg colors x ∷ []) more).0)) (value_more_args fs n (before ++ colored_arg colors x ∷ []) more).1))
   more_run fs no_more ts h before colors frames x n = refl
   more_run fs (next_arg ms t more) ts h before colors frames x n =
-      ap (with_roles (plain ∷ [])) 
+      ap (with_roles (plain ∷ []))
       (arg_runs fs ms t more ts h (before ++ colored_arg colors x ∷ []) frames n _ (expr_runs fs t (spell_more_args more (CloseParen ∷ ts)) (ends_more more ts) (InArgs h (before ++ colored_arg colors x ∷ []) (colors_of fs ms) ∷ frames) n) (more_run fs more ts h (before ++ colored_arg colors x ∷ []) (colors_of fs ms) frames (value_expr fs n t).0 (value_expr fs n t).1))
 
 -- The whole text of a tree, with the token behind it, is read as the tree's expression, in the tree's roles.

@@ -1,5 +1,7 @@
 -- What a step settles: its roles are settled, and the slots keep up with the nodes.
-use Rattle.std.proofs.Common.{◌≡◌, ℕ, suc, ◌+◌, ◌≤◌, Bool, true, false, ◌&&◌, List, [], ◌∷◌, ◌++◌, length, nat_le, Option, Some, None, refl, sym, ◌∙◌, ap, subst, arith, append_assoc, length-append}
+use Rattle.std.proofs.Common.{◌≡◌, ℕ, ◌+◌, ◌≤◌, Bool, true, false, List, [], ◌∷◌, ◌++◌, length, Option, Some, None, refl, sym, ◌∙◌, ap, subst, arith, append_assoc, length-append}
+use Rattle.std.specs.Prelude.{if◌then◌else◌}
+use Rattle.std.specs.List.{list_all}
 use Rattle.std.proofs.lemmas.Bool.{and_from, and_parts, le-leb}
 use Rattle.cfj_model.specs.declared.expr.Expr.{Expr}
 use Rattle.cfj_model.specs.declared.expr.Expr.TheVariants as e
@@ -9,8 +11,11 @@ use Rattle.expression_reader.specs.declared.frame.Frame.{Frame}
 use Rattle.expression_reader.specs.declared.frame.Frame.TheVariants.{InBracket, InCast, InArgs}
 use Rattle.expression_reader.specs.declared.mode.Mode.{Mode}
 use Rattle.expression_reader.specs.declared.mode.Mode.TheVariants.{Begin, FirstArg, InMarks, AfterAt, Paren, ParenName, ParenClosed, After, AfterDot, AfterMember, AfterNew, AfterClass, Done}
-use Rattle.expression_reader.specs.Machine.{State, at, start, step, step_in, uncast, close_in, comma_in, finish_in, after, depth, emitted, pending, waiting, waits, waits_in, unless, role, role_in, name_role, Run, then_run, run}
+use Rattle.expression_reader.specs.Machine.{State, at, start, step, step_in, uncast, close_in, comma_in, finish_in, depth, emitted, open_frames, pending, pending_in, settled, settles, waiting, waits, waits_in, unless, role, role_in, name_role, Run, then_run, run}
 use Rattle.expression_reader.specs.Reading.{owed, is_node, nodes_in, is_role_of_body}
+use Rattle.expression_reader.specs.Laws.{IsSlotted}
+use Rattle.expression_reader.specs.declared.roles.Settling.{Settling}
+use Rattle.expression_reader.specs.declared.roles.Settling.TheVariants.{Stays, Bracket, Cast}
 use Rattle.expression_reader.proofs.Law.{waits_on, run_long}
 
 -- ---- settled roles
@@ -116,14 +121,6 @@ finish_slot : (x : Expr) (n : ℕ) (frames : List Frame) → AtMost n (finish_in
 finish_slot x n [] = omega arith
 finish_slot x n (f ∷ frames) = tt
 
--- behind a whole expression only a dot is a node
-ends_slot : (x : Expr) (frames : List Frame) (n : ℕ) (t : Token) → AtMost (n + nodes_in (role_in (After x) 0 t ∷ [])) (after x frames n t)
-ends_slot x frames n Dot = omega arith
-ends_slot x frames n CloseParen = at_most n (n + 0) (close_in (uncast x frames).0 n (uncast x frames).1) (omega arith) (close_slot (uncast x frames).0 n (uncast x frames).1)
-ends_slot x frames n Comma = at_most n (n + 0) (comma_in (uncast x frames).0 n (uncast x frames).1) (omega arith) (comma_slot (uncast x frames).0 n (uncast x frames).1)
-ends_slot x frames n Semicolon = at_most n (n + 0) (finish_in (uncast x frames).0 (uncast x frames).1) (omega arith) (finish_slot (uncast x frames).0 n (uncast x frames).1)
-ends_slot x frames n _ = tt
-
 step_slot : (fs : List (List ℕ)) (m : Mode) (frames : List Frame) (n : ℕ) (t : Token) → AtMost (n + owed m + nodes_in (emitted (at frames m n) t)) (step_in fs m frames n t)
 step_slot fs Begin frames n (Id w) = omega arith
 step_slot fs Begin frames n ThisWord = omega arith
@@ -196,3 +193,59 @@ role_of_body m d ThisWord = refl
 role_of_body m d NewWord = refl
 role_of_body m d Dot = refl
 role_of_body m d _ = refl
+
+-- the roles that a step settles are those of an expression's tokens
+are_of_body : List Role → Bool
+are_of_body = list_all is_role_of_body
+
+unless_of_body : (w : Bool) (r : Role) → is_role_of_body r ≡ true → are_of_body (unless w r) ≡ true
+unfolding are_of_body
+unless_of_body true r h = refl
+unless_of_body false r h = and_from _ _ h refl
+
+joined_of_body : (rs qs : List Role) → are_of_body rs ≡ true → are_of_body qs ≡ true → are_of_body (rs ++ qs) ≡ true
+unfolding are_of_body
+joined_of_body [] qs h g = g
+joined_of_body (r ∷ rs) qs h g = let p = and_parts (is_role_of_body r) (list_all is_role_of_body rs) h in and_from _ _ p.0 (joined_of_body rs qs p.1 g)
+
+settled_of_body : (c : Settling) (m : Mode) (d : ℕ) → are_of_body (settled c (pending_in m d)) ≡ true
+unfolding are_of_body
+settled_of_body Stays m d = refl
+settled_of_body Bracket Paren d = refl
+settled_of_body Bracket (ParenName w) d = refl
+settled_of_body Bracket (ParenClosed w) d = refl
+settled_of_body Bracket _ d = refl
+settled_of_body Cast Paren d = refl
+settled_of_body Cast (ParenName w) d = refl
+settled_of_body Cast (ParenClosed w) d = refl
+settled_of_body Cast _ d = refl
+
+emitted_of_body : (s : State) (t : Token) → are_of_body (emitted s t) ≡ true
+emitted_of_body s t = joined_of_body _ _ (settled_of_body (settles s t) s.mode (open_frames s.frames)) (unless_of_body (waits s t) (role s t) (role_of_body s.mode (depth s) t))
+
+-- The tally counts their nodes.
+one_counted : (t : Tally) (r : Role) → is_role_of_body r ≡ true → (counted t r).nodes ≡ t.nodes + (if is_node r then 1 else 0)
+one_counted t (var_name w) h = refl
+one_counted t (used_name w) h = omega arith
+one_counted t (mark_name w) h = omega arith
+one_counted t (opens d) h = omega arith
+one_counted t (casts d) h = refl
+one_counted t node h = refl
+one_counted t plain h = omega arith
+one_counted t _ h = absurd (let no : ⊥ = cc h in no)
+
+nodes_counted : (t : Tally) (rs : List Role) → are_of_body rs ≡ true → (tallied t rs).nodes ≡ t.nodes + nodes_in rs
+unfolding are_of_body
+nodes_counted t [] h = omega arith
+nodes_counted t (r ∷ rs) h =
+    let p = and_parts (is_role_of_body r) (list_all is_role_of_body rs) h in
+    let rest : (tallied (counted t r) rs).nodes ≡ (counted t r).nodes + nodes_in rs = nodes_counted (counted t r) rs p.1 in
+    let one : (counted t r).nodes ≡ t.nodes + (if is_node r then 1 else 0) = one_counted t r p.0 in
+    omega (arith, rest, one)
+
+-- Where a step's roles are counted, the slots keep up with the nodes.
+pub slots_keep_up : (fs : List (List ℕ)) (s n : State) (token : Token) (t : Tally) → step fs s token ≡ Some n → IsSlotted s t → IsSlotted n (tallied t (emitted s token))
+slots_keep_up fs s n token t goes h =
+    let step_is : n.slot + owed n.mode ≤ s.slot + owed s.mode + nodes_in (emitted s token) = subst (AtMost (s.slot + owed s.mode + nodes_in (emitted s token))) goes (step_slot fs s.mode s.frames s.slot token) in
+    let tally_is : (tallied t (emitted s token)).nodes ≡ t.nodes + nodes_in (emitted s token) = nodes_counted t (emitted s token) (emitted_of_body s token) in
+    omega (arith, step_is, tally_is, h)

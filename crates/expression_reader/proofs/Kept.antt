@@ -1,5 +1,5 @@
 -- A tree whose tokens break nothing stands for an expression of which a project's type keeps what it asks of a body.
-use Rattle.std.proofs.Common.{◌≡◌, ℕ, ◌+◌, ◌^◌, ◌≤◌, ◌<◌, Bool, true, false, ◌&&◌, ◌||◌, List, [], ◌∷◌, ◌++◌, length, refl, sym, ◌∙◌, ap, subst, arith, Some, None, nat_le, bytes_eq}
+use Rattle.std.proofs.Common.{◌≡◌, ℕ, ◌+◌, ◌^◌, ◌≤◌, ◌<◌, Bool, true, false, ◌||◌, List, [], ◌∷◌, ◌++◌, length, refl, sym, subst, arith, Some, None, nat_le, bytes_eq}
 use Rattle.std.specs.Prelude.{nat_lt, bit_or, codes}
 use Rattle.std.specs.List.{position_or_len}
 use Rattle.std.proofs.Math.Pow.{pow-lt, pow_pos}
@@ -12,14 +12,15 @@ use Rattle.cfj_model.specs.declared.expr.Expr.TheVariants as e
 use Rattle.cfj_model.specs.declared.fault.FaultKind.{FaultKind}
 use Rattle.cfj_model.specs.declared.fault.FaultKind.TheVariants.{Limit}
 use Rattle.cfj_model.specs.declared.fault.LimitKind.TheVariants as limit
-use Rattle.cfj_model.specs.Names.{is_identifier, is_short_identifier, is_name}
+use Rattle.cfj_model.specs.Names.{is_identifier, is_short_identifier}
 use Rattle.cfj_model.specs.Expressions.{are_known, node_count}
 use Rattle.cfj_model.specs.Marks.{spell_marks, roles_marks, color_at, color_of, colored, colors_of}
-use Rattle.cfj_model.specs.ProductLines.{most_nest, most_nodes, most_size, is_body}
-use Rattle.cfj_model.specs.Tokens.{Token, Id, NewWord, ThisWord, OpenParen, CloseParen, Comma, Dot, At, Semicolon}
-use Rattle.cfj_model.specs.Roles.{Role, casts, node, opens, plain, used_name, var_name, mark_name, Tally, counted, first_of, is_long, past_nest, past_nodes, past_size, broken_by, AreWithin}
+use Rattle.cfj_model.specs.ProductLines.{most_nest, most_nodes, most_size}
+use Rattle.cfj_model.specs.Tokens.{Token, Id, ThisWord, OpenParen, CloseParen, Dot}
+use Rattle.cfj_model.specs.Roles.{Role, node, opens, plain, used_name, var_name, Tally, first_of, is_long, past_nest, past_nodes, past_size, broken_by, AreWithin}
 use Rattle.cfj_model.specs.ExpressionGrammar.{ExprTree, cast, chain, StartTree, variable, this_word, made, bracket, StepsTree, stop, get, call, ArgsTree, no_args, first_arg, MoreArgsTree, no_more, next_arg, spell_expr, spell_start, spell_steps, spell_args, spell_more_args, roles_expr, roles_start, roles_steps, roles_args, roles_more_args, value_expr, value_start, value_steps, value_args, value_more_args}
 use Rattle.fj_symbols.specs.Views.{are_read}
+use Rattle.expression_reader.specs.Laws.{IsKept}
 use Rattle.expression_reader.proofs.Bodies.{Known, Chain, chain_ends, bracketed_known, ArgsKnown, none_known, args_more, var_known, get_known, call_known, new_known, cast_known, body_known}
 
 -- ---- what one token's role says
@@ -80,20 +81,16 @@ known_colors features ms = lt-ltb (colors_of features ms) (2 ^ length features) 
 -- ---- what is known behind tokens
 
 -- Behind tokens whose nodes have the slots from one to before another: the tally, and that what follows is within the limits.
-pub record Behind (t : Tally) (n m : ℕ) (rest : List Role) (more : List Token) : Type 0 where
-  pub marks : List (List ℕ)
-  pub nodes : ℕ
-  pub size : ℕ
-  pub nodes_rise : nodes + n ≡ t.nodes + m
-  pub size_rises : size + n ≡ t.size + m
-  pub few : nodes ≤ most_nodes
-  pub small : size ≤ most_size
-  pub within : AreWithin (record t { marks = marks; nodes = nodes; size = size }) rest
-  pub read : are_read more ≡ true
-
--- what is counted behind them
-abbrev pub tally_behind : {t : Tally} {n m : ℕ} {rest : List Role} {more : List Token} → Behind t n m rest more → Tally
-tally_behind {t = t} b = record t { marks = b.marks; nodes = b.nodes; size = b.size }
+record Behind (t : Tally) (n m : ℕ) (rest : List Role) (more : List Token) : Type 0 where
+  marks : List (List ℕ)
+  nodes : ℕ
+  size : ℕ
+  nodes_rise : nodes + n ≡ t.nodes + m
+  size_rises : size + n ≡ t.size + m
+  few : nodes ≤ most_nodes
+  small : size ≤ most_size
+  within : AreWithin (record t { marks = marks; nodes = nodes; size = size }) rest
+  read : are_read more ≡ true
 
 -- and behind further tokens
 behind_both : {t : Tally} {n m k : ℕ} {rest last : List Role} {more end : List Token} (b : Behind t n m rest more) → Behind (record t { marks = b.marks; nodes = b.nodes; size = b.size }) m k last end → Behind t n k last end
@@ -278,16 +275,9 @@ mutual
       let b = more_kept fs (record t { marks = a.behind.marks; nodes = a.behind.nodes; size = a.behind.size }) d from (value_expr fs n x).1 (before ++ record { colors = colors_of fs ms; expr = (value_expr fs n x).0 } ∷ []) xs rest more a.known (before_behind h.open_few a.behind) in
       record { known = b.known; behind = behind_both a.behind b.behind }
 
--- An expression's tree whose tokens break nothing, where no node was met before: what a body is to be holds of its expression,
--- and its nodes and the size are counted by its roles.
-pub record BodyKept (fs : List (List ℕ)) (t : Tally) (x : Expr) (rest : List Role) (more : List Token) : Type 0 where
-  pub is : is_body (length fs) x ≡ true
-  pub marks : List (List ℕ)
-  pub small : t.size + node_count x ≤ most_size
-  pub within : AreWithin (record t { marks = marks; nodes = node_count x; size = t.size + node_count x }) rest
-  pub read : are_read more ≡ true
-
-pub body_kept : (fs : List (List ℕ)) (t : Tally) (x : ExprTree) (rest : List Role) (more : List Token) → t.nodes ≡ 0 → t.size ≤ most_size → AreWithin t (roles_expr 0 x rest) → are_read (spell_expr x more) ≡ true → BodyKept fs t (value_expr fs 0 x).0 rest more
+-- A tree whose tokens break nothing, where no node was met before, stands for a body that a project keeps; and its roles count its
+-- nodes.
+pub body_kept : (fs : List (List ℕ)) (t : Tally) (x : ExprTree) (rest : List Role) (more : List Token) → t.nodes ≡ 0 → t.size ≤ most_size → AreWithin t (roles_expr 0 x rest) → are_read (spell_expr x more) ≡ true → IsKept fs t x rest more
 body_kept fs t x rest more none small w r =
     let k = expr_kept fs t 0 0 x rest more (record { open_few = omega arith; few = omega (arith, none); small = small; within = w; read = r }) in
     let m : ℕ = (value_expr fs 0 x).1 in

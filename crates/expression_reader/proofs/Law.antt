@@ -1,12 +1,12 @@
 -- The laws of the machine: what it has read begins a text, in the one way in which it can; and where it is stuck, no text goes on.
-use Rattle.std.proofs.Common.{◌≡◌, ℕ, suc, ◌+◌, Bool, true, false, List, [], ◌∷◌, ◌++◌, length, map, Option, Some, None, refl, sym, ◌∙◌, ap, subst, arith, append_assoc, length-append, ◌⊎◌, inl, inr}
-use Rattle.std.specs.Prelude.{codes, bit_or}
+use Rattle.std.proofs.Common.{◌≡◌, ℕ, ◌+◌, Bool, true, false, List, [], ◌∷◌, ◌++◌, length, map, Option, Some, None, refl, sym, ◌∙◌, ap, subst, arith, append_assoc, length-append, ◌⊎◌, inl, inr}
+use Rattle.std.specs.Prelude.{bit_or}
 use Rattle.cfj_model.specs.declared.expr.Expr.{Expr}
 use Rattle.cfj_model.specs.declared.expr.Expr.TheVariants as e
 use Rattle.cfj_model.specs.Marks.{color_of}
 use Rattle.cfj_model.specs.Tokens.{Token, Id, NewWord, ThisWord, OpenParen, CloseParen, Comma, Dot, At, Semicolon}
-use Rattle.cfj_model.specs.Roles.{Role, plain, casts, opens, var_name, used_name, is_settled, are_settled}
-use Rattle.cfj_model.specs.ExpressionGrammar.{ExprTree, spell_expr, roles_expr, value_expr}
+use Rattle.cfj_model.specs.Roles.{Role, plain, opens, var_name, used_name, is_settled, are_settled}
+use Rattle.cfj_model.specs.ExpressionGrammar.{roles_expr, value_expr}
 use Rattle.expression_reader.specs.declared.frame.Frame.{Frame}
 use Rattle.expression_reader.specs.declared.frame.Frame.TheVariants.{InBracket, InCast, InArgs}
 use Rattle.expression_reader.specs.declared.mode.Mode.{Mode}
@@ -15,8 +15,8 @@ use Rattle.expression_reader.specs.declared.roles.Settling.{Settling}
 use Rattle.expression_reader.specs.declared.roles.Settling.TheVariants.{Stays, Bracket, Cast}
 use Rattle.std.proofs.lemmas.List.{length-map}
 use Rattle.std.proofs.lemmas.Bool.{and_parts}
-use Rattle.expression_reader.specs.Machine.{State, at, go, start, done, applied, colored_arg, step, step_in, open_frames, emitted, pending, pending_in, as_cast, Run, with_roles, then_run, run, is_read_whole, is_done, takes_name, takes_name_in, close_in, comma_in, finish_in, uncast, after, settled, settles, unless, waits, role, waiting, left, where_so}
-use Rattle.expression_reader.specs.Reading.{Begins, CanGoOn, IsTextOf}
+use Rattle.expression_reader.specs.Machine.{State, at, start, done, applied, colored_arg, step, step_in, open_frames, emitted, pending, as_cast, Run, with_roles, then_run, run, is_read_whole, is_done, is_done_mode, takes_name, takes_name_in, close_in, comma_in, finish_in, uncast, after, settled, settles, unless, waits, role, waiting, left, where_so}
+use Rattle.expression_reader.specs.Reading.{Begins, CanGoOn}
 use Rattle.expression_reader.proofs.Complete.{Ends, at_close, at_comma, at_semicolon, cast_ends, member_ends, closed_ends, bracketed, cast_to, text_runs}
 use Rattle.expression_reader.proofs.Sound.{Accepts, never, text_of}
 
@@ -382,3 +382,94 @@ name_stops fs s w e = by s.mode e
     by (AfterClass c) e = refl
     by (Done x) e = refl
     by _ e = never (sym e)
+
+-- ---- the end
+
+-- no token goes on behind the whole expression
+pub ends_once : (fs : List (List ℕ)) (s : State) (t : Token) → is_done s ≡ true → step fs s t ≡ None
+ends_once fs s t e = by s.mode e
+  where
+    by : (m : Mode) → is_done_mode m ≡ true → step_in fs m s.frames s.slot t ≡ None
+    by (Done x) e = refl
+    by _ e = never e
+
+-- a state that isn't the last
+abbrev GoesOn : Option State → Type 0
+GoesOn None = Unit {0}
+GoesOn (Some n) = is_done n ≡ false
+
+close_goes_on : (x : Expr) (n : ℕ) (frames : List Frame) → GoesOn (close_in x n frames)
+close_goes_on x n [] = tt
+close_goes_on x n (InBracket ∷ frames) = refl
+close_goes_on x n (InCast s c ∷ frames) = tt
+close_goes_on x n (InArgs h before colors ∷ frames) = refl
+
+comma_goes_on : (x : Expr) (n : ℕ) (frames : List Frame) → GoesOn (comma_in x n frames)
+comma_goes_on x n [] = tt
+comma_goes_on x n (InBracket ∷ frames) = tt
+comma_goes_on x n (InCast s c ∷ frames) = tt
+comma_goes_on x n (InArgs h before colors ∷ frames) = refl
+
+-- only `;` leads to the end
+abbrev EndsBy : Token → Option State → Type 0
+EndsBy Semicolon o = Unit {0}
+EndsBy _ o = GoesOn o
+
+after_ends_by : (x : Expr) (frames : List Frame) (n : ℕ) (t : Token) → EndsBy t (after x frames n t)
+after_ends_by x frames n Dot = refl
+after_ends_by x frames n CloseParen = close_goes_on (uncast x frames).0 n (uncast x frames).1
+after_ends_by x frames n Comma = comma_goes_on (uncast x frames).0 n (uncast x frames).1
+after_ends_by x frames n _ = tt
+
+step_ends_by : (fs : List (List ℕ)) (m : Mode) (frames : List Frame) (n : ℕ) (t : Token) → EndsBy t (step_in fs m frames n t)
+step_ends_by fs m frames n Semicolon = tt
+step_ends_by fs (AfterAt h before colors) frames n (Id w) = refl
+step_ends_by fs (AfterAt h before colors) frames n _ = tt
+step_ends_by fs (AfterDot x) frames n (Id w) = refl
+step_ends_by fs (AfterDot x) frames n _ = tt
+step_ends_by fs AfterNew frames n (Id w) = refl
+step_ends_by fs AfterNew frames n _ = tt
+step_ends_by fs (AfterClass c) frames n OpenParen = refl
+step_ends_by fs (AfterClass c) frames n _ = tt
+step_ends_by fs (ParenName w) frames n CloseParen = refl
+step_ends_by fs (ParenName w) frames n Dot = refl
+step_ends_by fs (ParenName w) frames n _ = tt
+step_ends_by fs (Done x) frames n _ = tt
+step_ends_by fs (After x) frames n t = after_ends_by x frames n t
+step_ends_by fs (AfterMember x w) frames n OpenParen = refl
+step_ends_by fs (AfterMember x w) frames n t = after_ends_by (e.Get n x w) frames (n + 1) t
+step_ends_by fs (ParenClosed w) frames n (Id v) = refl
+step_ends_by fs (ParenClosed w) frames n ThisWord = refl
+step_ends_by fs (ParenClosed w) frames n NewWord = refl
+step_ends_by fs (ParenClosed w) frames n OpenParen = refl
+step_ends_by fs (ParenClosed w) frames n t = after_ends_by (e.Var n w) frames (n + 1) t
+step_ends_by fs Begin frames n (Id v) = refl
+step_ends_by fs Begin frames n ThisWord = refl
+step_ends_by fs Begin frames n NewWord = refl
+step_ends_by fs Begin frames n OpenParen = refl
+step_ends_by fs Begin frames n _ = tt
+step_ends_by fs (FirstArg h) frames n (Id v) = refl
+step_ends_by fs (FirstArg h) frames n ThisWord = refl
+step_ends_by fs (FirstArg h) frames n NewWord = refl
+step_ends_by fs (FirstArg h) frames n OpenParen = refl
+step_ends_by fs (FirstArg h) frames n CloseParen = refl
+step_ends_by fs (FirstArg h) frames n At = refl
+step_ends_by fs (FirstArg h) frames n _ = tt
+step_ends_by fs (InMarks h before colors) frames n (Id v) = refl
+step_ends_by fs (InMarks h before colors) frames n ThisWord = refl
+step_ends_by fs (InMarks h before colors) frames n NewWord = refl
+step_ends_by fs (InMarks h before colors) frames n OpenParen = refl
+step_ends_by fs (InMarks h before colors) frames n At = refl
+step_ends_by fs (InMarks h before colors) frames n _ = tt
+step_ends_by fs Paren frames n (Id v) = refl
+step_ends_by fs Paren frames n ThisWord = refl
+step_ends_by fs Paren frames n NewWord = refl
+step_ends_by fs Paren frames n OpenParen = refl
+step_ends_by fs Paren frames n _ = tt
+
+pub ends_at_semicolon : (fs : List (List ℕ)) (s n : State) (t : Token) → step fs s t ≡ Some n → is_done n ≡ true → t ≡ Semicolon
+ends_at_semicolon fs s n t goes ended = by t (subst (EndsBy t) goes (step_ends_by fs s.mode s.frames s.slot t))
+  where
+    by : (t : Token) → EndsBy t (Some n) → t ≡ Semicolon
+    by Semicolon h = refl
+    by _ h = never (sym h ∙ ended)

@@ -1,20 +1,18 @@
 -- What is read to the end is what a tree spells.
-use Rattle.std.proofs.Common.{◌≡◌, ℕ, zero, suc, ◌+◌, ◌<◌, ◌≤◌, Bool, true, false, List, [], ◌∷◌, ◌++◌, length, Option, Some, None, refl, sym, ◌∙◌, ap, arith}
+use Rattle.std.proofs.Common.{◌≡◌, ℕ, zero, suc, ◌+◌, ◌<◌, ◌≤◌, true, false, List, [], ◌∷◌, ◌++◌, length, refl, sym, ◌∙◌, ap, arith}
 use Rattle.std.specs.Prelude.{bit_or, codes}
 use Rattle.cfj_model.specs.declared.expr.Arg.{Arg}
 use Rattle.cfj_model.specs.declared.expr.Expr.{Expr}
 use Rattle.cfj_model.specs.declared.expr.Expr.TheVariants as e
-use Rattle.cfj_model.specs.Marks.{spell_marks, color_of, colored, colors_of}
+use Rattle.cfj_model.specs.Marks.{spell_marks, color_of}
 use Rattle.cfj_model.specs.Tokens.{Token, Id, NewWord, ThisWord, OpenParen, CloseParen, Comma, Dot, At, Semicolon}
-use Rattle.cfj_model.specs.Roles.{Role}
-use Rattle.cfj_model.specs.ExpressionGrammar.{ExprTree, cast, chain, StartTree, variable, this_word, made, bracket, StepsTree, stop, get, call, ArgsTree, no_args, first_arg, MoreArgsTree, no_more, next_arg, spell_expr, spell_start, spell_steps, spell_args, spell_more_args}
+use Rattle.cfj_model.specs.ExpressionGrammar.{ExprTree, cast, chain, variable, this_word, made, bracket, StepsTree, stop, get, call, ArgsTree, no_args, first_arg, MoreArgsTree, no_more, next_arg, spell_expr, spell_steps, spell_args, spell_more_args}
 use Rattle.expression_reader.specs.declared.frame.Frame.{Frame}
 use Rattle.expression_reader.specs.declared.frame.Frame.TheVariants.{InBracket, InCast, InArgs}
 use Rattle.expression_reader.specs.declared.frame.Head.{Head}
 use Rattle.expression_reader.specs.declared.frame.Head.TheVariants.{OfCall, OfNew}
-use Rattle.expression_reader.specs.declared.mode.Mode.{Mode}
-use Rattle.expression_reader.specs.declared.mode.Mode.TheVariants.{Begin, FirstArg, InMarks, AfterAt, Paren, ParenName, ParenClosed, After, AfterDot, AfterMember, AfterNew, AfterClass, Done}
-use Rattle.expression_reader.specs.Machine.{State, at, start, done, applied, colored_arg, Run, run, is_read_whole}
+use Rattle.expression_reader.specs.declared.mode.Mode.TheVariants.{Begin, FirstArg, InMarks, Paren, ParenName, ParenClosed, After, AfterDot, AfterNew}
+use Rattle.expression_reader.specs.Machine.{State, at, start, applied, colored_arg, Run, run, is_read_whole}
 use Rattle.expression_reader.proofs.Complete.{Ends, at_close, at_comma, at_semicolon, cast_ends, closed_ends}
 
 -- these tokens lead from a state to the end of the expression

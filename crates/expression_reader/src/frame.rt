@@ -15,7 +15,10 @@ pub enum Frame {
     /// A bracket.
     InBracket,
     /// A cast, to the end of its operand.
-    InCast { slot: u16, class: Name },
+    InCast {
+        slot: u16,
+        class: Name,
+    },
     /// An argument list, with the arguments before the one that is read, and the colours of that one.
     InArgs {
         head: Head,

@@ -8,11 +8,13 @@
 mod arguments;
 mod chains;
 mod frame;
+mod laws;
 mod mode;
 mod operands;
 mod reader;
 mod roles;
 mod stack;
 
+pub use laws::{counts_each, keeps_bodies, reads_exactly, reads_fronts, stands_before};
 pub use reader::ExpressionReader;
 pub use roles::Settling;

@@ -16,7 +16,11 @@ use std::alloc::{AllocError, Global};
 
 /// Where an expression begins: names, `this`, `new`, brackets and casts.
 impl ExpressionReader {
-    pub(crate) fn begin(&mut self, alloc: Global, symbol: Symbol<'_>) -> Result<Option<Mode>, AllocError>
+    pub(crate) fn begin(
+        &mut self,
+        alloc: Global,
+        symbol: Symbol<'_>,
+    ) -> Result<Option<Mode>, AllocError>
         requires named { is_name_token (symbol_seen symbol) ≡ true }
         requires room { self.old.slot + 1 < 2 ^ 16 }
         ensures { IfOk result (λ mode. moved mode self.new.frames self.new.slot ≡ machine.begin self.old.frames self.old.slot (symbol_seen symbol.entry)) }
@@ -48,7 +52,11 @@ impl ExpressionReader {
         Ok(Some(Mode::After(Expr::Var { slot, name })))
     }
 
-    pub(crate) fn paren(&mut self, alloc: Global, symbol: Symbol<'_>) -> Result<Option<Mode>, AllocError>
+    pub(crate) fn paren(
+        &mut self,
+        alloc: Global,
+        symbol: Symbol<'_>,
+    ) -> Result<Option<Mode>, AllocError>
         requires named { is_name_token (symbol_seen symbol) ≡ true }
         requires room { self.old.slot + 1 < 2 ^ 16 }
         ensures { IfOk result (λ mode. moved mode self.new.frames self.new.slot ≡ machine.paren self.old.frames self.old.slot (symbol_seen symbol.entry)) }

@@ -76,6 +76,7 @@ abbrev pub finish_in : Expr → List Frame → Option State
 finish_in x [] = Some (done x)
 finish_in x _ = None
 
+-- and so with the casts round it
 abbrev pub close : Expr → ℕ → List Frame → Option State
 close x n fs = let u = uncast x fs in close_in u.0 n u.1
 
@@ -93,11 +94,13 @@ after x fs n Comma = comma x n fs
 after x fs n Semicolon = finish x fs
 after x fs n _ = None
 
+-- behind the bracket that opens an argument list
 abbrev pub first_arg : Head → List Frame → ℕ → Token → Option State
 first_arg h fs n CloseParen = go fs (After (applied h [])) n
 first_arg h fs n At = go fs (AfterAt h [] 0) n
 first_arg h fs n t = begin (InArgs h [] 0 ∷ fs) n t
 
+-- behind a comma between arguments, or a mark of an argument
 abbrev pub in_marks : Head → List Arg → ℕ → List Frame → ℕ → Token → Option State
 in_marks h before colors fs n At = go fs (AfterAt h before colors) n
 in_marks h before colors fs n t = begin (InArgs h before colors ∷ fs) n t
@@ -107,6 +110,7 @@ abbrev pub after_at : List (List ℕ) → Head → List Arg → ℕ → List Fra
 after_at features h before colors fs n (Id m) = go fs (InMarks h before (bit_or colors (color_of features m))) n
 after_at features h before colors fs n _ = None
 
+-- behind a bracket where an expression begins, and behind a name in it
 abbrev pub paren : List Frame → ℕ → Token → Option State
 paren fs n (Id w) = go fs (ParenName w) n
 paren fs n t = begin (InBracket ∷ fs) n t
@@ -128,6 +132,7 @@ begins_operand _ = false
 abbrev pub paren_closed : List ℕ → List Frame → ℕ → Token → Option State
 paren_closed w fs n t = if begins_operand t then begin (InCast n w ∷ fs) (n + 1) t else after (e.Var n w) fs (n + 1) t
 
+-- behind a dot, and behind a member's name
 abbrev pub after_dot : Expr → List Frame → ℕ → Token → Option State
 after_dot x fs n (Id w) = go fs (AfterMember x w) n
 after_dot x fs n _ = None
@@ -136,6 +141,7 @@ abbrev pub after_member : Expr → List ℕ → List Frame → ℕ → Token →
 after_member x w fs n OpenParen = go fs (FirstArg (OfCall n x w)) (n + 1)
 after_member x w fs n t = after (e.Get n x w) fs (n + 1) t
 
+-- behind `new`, and behind the name of its class
 abbrev pub after_new : List Frame → ℕ → Token → Option State
 after_new fs n (Id c) = go fs (AfterClass c) n
 after_new fs n _ = None
@@ -144,6 +150,7 @@ abbrev pub after_class : List ℕ → List Frame → ℕ → Token → Option St
 after_class c fs n OpenParen = go fs (FirstArg (OfNew n c)) (n + 1)
 after_class c fs n _ = None
 
+-- in each mode
 abbrev pub step_in : List (List ℕ) → Mode → List Frame → ℕ → Token → Option State
 step_in features Begin fs n t = begin fs n t
 step_in features (FirstArg h) fs n t = first_arg h fs n t
@@ -223,6 +230,7 @@ name_role (AfterDot x) w = used_name w
 name_role AfterNew w = used_name w
 name_role _ w = var_name w
 
+-- what a token is in a mode, where so many are open
 abbrev pub role_in : Mode → ℕ → Token → Role
 role_in m d (Id w) = name_role m w
 role_in m d OpenParen = opens (d + 1)
@@ -241,21 +249,24 @@ as_cast (opens d) = casts d
 as_cast (var_name w) = used_name w
 as_cast r = r
 
--- what the tokens that wait are settled as, and what waits on
+-- what the tokens that wait are settled as
 abbrev pub settled : Settling → List Role → List Role
 settled Stays rs = []
 settled Bracket rs = rs
 settled Cast rs = map as_cast rs
 
+-- what waits on
 abbrev pub left : Settling → List Role → List Role
 left Stays rs = rs
 left Bracket rs = []
 left Cast rs = []
 
+-- the role of a token that doesn't wait
 abbrev pub unless : Bool → Role → List Role
 unless true r = []
 unless false r = r ∷ []
 
+-- and of one that does
 abbrev pub where_so : Bool → Role → List Role
 where_so true r = r ∷ []
 where_so false r = []
@@ -268,8 +279,7 @@ emitted s t = settled (settles s t) (pending s) ++ unless (waits s t) (role s t)
 abbrev pub waiting : State → Token → List Role
 waiting s t = left (settles s t) (pending s) ++ where_so (waits s t) (role s t)
 
--- What is reached, and the roles that are settled on the way; those of the tokens that wait are, as it were, settled by a
--- token that can't go on, too.
+-- What is reached, and the roles that are settled on the way; where a token can't go on, with those that it would settle.
 abbrev pub Run : Type 0
 Run = Option State × List Role
 
@@ -315,6 +325,7 @@ expression_in _ = None
 abbrev pub expression : State → Option Expr
 expression s = expression_in s.mode
 
+-- the whole expression was read
 abbrev pub is_read_whole : Option State → Bool
 is_read_whole None = false
 is_read_whole (Some s) = is_done s

@@ -1,0 +1,29 @@
+-- The reader's own type, as the state that it stands for.
+use Rattle.std.specs.Prelude.{◌≡◌, ℕ, ◌+◌, ◌^◌, ◌<◌, Bool, true, false, List, [], ◌∷◌, Option, Some, None}
+use Rattle.cfj_model.specs.declared.expr.Expr.{Expr}
+use Rattle.expression_reader.specs.declared.frame.Frame.{Frame}
+use Rattle.expression_reader.specs.declared.reader.ExpressionReader.{ExpressionReader}
+use Rattle.expression_reader.specs.declared.mode.Mode.{Mode}
+use Rattle.expression_reader.specs.Machine.{State, go}
+
+abbrev pub reader_seen : ExpressionReader → State
+reader_seen r = record { frames = r.frames; mode = r.mode; slot = r.slot }
+
+-- the state in this mode, if there is one
+abbrev pub moved : Option Mode → List Frame → ℕ → Option State
+moved None fs n = None
+moved (Some m) fs n = go fs m n
+
+-- the reader went on to this state, or could not go on
+abbrev pub Goes : Bool → Option State → State → Type 0
+Goes true next new = next ≡ Some new
+Goes false next new = next ≡ None
+
+-- two more nodes have slots
+abbrev pub IsRoomy : State → Type 0
+IsRoomy s = s.slot + 2 < 2 ^ 16
+
+-- an expression in a frame, which was taken from these frames; no frame is left behind none
+abbrev pub IsIn : Expr × List Frame → Expr → Option Frame → List Frame → Type 0
+IsIn u x None fs = (u ≡ (x, [])) × (fs ≡ [])
+IsIn u x (Some f) fs = u ≡ (x, f ∷ fs)

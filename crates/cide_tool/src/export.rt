@@ -15,8 +15,8 @@ use cfj_model::{FaultKind, ParseFault, Project, Selection};
 use cide_io::{ReadAll, Room, Sink};
 use feature_model::NameFault;
 use fj_parser::parse_project;
-use variant_export::{ExportFault, export as export_to};
 use std::alloc::{AllocError, Global};
+use variant_export::{ExportFault, export as export_to};
 
 /// The line that tells the first fault of a text.
 fn refusal(alloc: Global, at: usize, kind: &FaultKind) -> Result<String, AllocError>

@@ -12,23 +12,47 @@ const DECLARATIONS: [Row; 37] = [
     // a superclass that isn't declared; one that is, before or behind; and one that hides a field's type
     ("class A extends B { A() { super(); } }", "A K1"),
     ("class A extends Object { A() { super(); } }", ""),
-    ("class A extends B { A() { super(); } } class B extends Object { B() { super(); } }", ""),
-    ("class A extends B { C f; A(C f) { super(); this.f = f; } }", "A K1"),
+    (
+        "class A extends B { A() { super(); } } class B extends Object { B() { super(); } }",
+        "",
+    ),
+    (
+        "class A extends B { C f; A(C f) { super(); this.f = f; } }",
+        "A K1",
+    ),
     // a field's type
-    ("class A extends Object { C f; A(C f) { super(); this.f = f; } }", "A.f K1"),
-    ("class A extends Object { A f; A(A f) { super(); this.f = f; } }", ""),
+    (
+        "class A extends Object { C f; A(C f) { super(); this.f = f; } }",
+        "A.f K1",
+    ),
+    (
+        "class A extends Object { A f; A(A f) { super(); this.f = f; } }",
+        "",
+    ),
     // a parameter's type, of a field that stands further behind
     (
         "class B extends A { B(C f) { super(f); } } class A extends Object { C f; A(C f) { super(); this.f = f; } }",
         "B.new(0) K1",
     ),
     // a method's result, and a parameter of one
-    ("class A extends Object { A() { super(); } C m() { return this; } }", "A.m() K1"),
-    ("class A extends Object { A() { super(); } Object m(C x) { return x; } }", "A.m(0) K1"),
-    ("class A extends Object { A() { super(); } Object m(A x, Object y) { return x; } }", ""),
+    (
+        "class A extends Object { A() { super(); } C m() { return this; } }",
+        "A.m() K1",
+    ),
+    (
+        "class A extends Object { A() { super(); } Object m(C x) { return x; } }",
+        "A.m(0) K1",
+    ),
+    (
+        "class A extends Object { A() { super(); } Object m(A x, Object y) { return x; } }",
+        "",
+    ),
     // rings of one, two and three; a chain that ends; a superclass that isn't declared hides a ring behind it
     ("class A extends A { A() { super(); } }", "A K2"),
-    ("class A extends B { A() { super(); } } class B extends A { B() { super(); } }", "A K2"),
+    (
+        "class A extends B { A() { super(); } } class B extends A { B() { super(); } }",
+        "A K2",
+    ),
     (
         "class A extends B { A() { super(); } } class B extends C { B() { super(); } } class C extends A { C() { super(); } }",
         "A K2",
@@ -55,9 +79,18 @@ const DECLARATIONS: [Row; 37] = [
         "B.f K1",
     ),
     // a constructor that takes too few, another type, another name, another order
-    ("class A extends Object { Object f; A() { super(); this.f = f; } }", "A.new K4"),
-    ("class A extends Object { Object f; A(A f) { super(); this.f = f; } }", "A.new K4"),
-    ("class A extends Object { Object f; A(Object g) { super(); this.f = f; } }", "A.new K4"),
+    (
+        "class A extends Object { Object f; A() { super(); this.f = f; } }",
+        "A.new K4",
+    ),
+    (
+        "class A extends Object { Object f; A(A f) { super(); this.f = f; } }",
+        "A.new K4",
+    ),
+    (
+        "class A extends Object { Object f; A(Object g) { super(); this.f = f; } }",
+        "A.new K4",
+    ),
     (
         "class A extends Object { Object f; Object g; A(Object g, Object f) { super(); this.f = f; this.g = g; } }",
         "A.new K4",
@@ -76,8 +109,14 @@ const DECLARATIONS: [Row; 37] = [
         "B.new K4",
     ),
     // one that assigns none, one field twice, or none where it passes too few on
-    ("class A extends Object { Object f; A(Object f) { super(); } }", "A.new K6"),
-    ("class A extends Object { Object f; A(Object f) { super(); this.f = f; this.f = f; } }", "A.new K6"),
+    (
+        "class A extends Object { Object f; A(Object f) { super(); } }",
+        "A.new K6",
+    ),
+    (
+        "class A extends Object { Object f; A(Object f) { super(); this.f = f; this.f = f; } }",
+        "A.new K6",
+    ),
     (
         "class A extends Object { Object f; A(Object f) { super(); this.f = f; } } class B extends A { Object g; B(Object f, Object g) { super(); } }",
         "B.new K5",
@@ -109,13 +148,23 @@ const DECLARATIONS: [Row; 37] = [
         "B.m() K7",
     ),
     // a body of a type above the result's, below it, or without a type
-    ("class A extends Object { A() { super(); } A m(Object x) { return x; } }", "A.m() K8"),
-    ("class A extends Object { A() { super(); } Object m(A x) { return x; } }", ""),
-    ("class A extends Object { A() { super(); } A m() { return y; } }", "A.m()#0 E1"),
+    (
+        "class A extends Object { A() { super(); } A m(Object x) { return x; } }",
+        "A.m() K8",
+    ),
+    (
+        "class A extends Object { A() { super(); } Object m(A x) { return x; } }",
+        "",
+    ),
+    (
+        "class A extends Object { A() { super(); } A m() { return y; } }",
+        "A.m()#0 E1",
+    ),
 ];
 
 /// In front of these bodies stand a class with a field and a method, and a class below it.
-const CLASSES: &str = "class P extends Object { P p; P(P p) { super(); this.p = p; } P id(P x) { return x; } } class Q extends P { Q(P p) { super(p); } } class R extends Object { R() { super(); } ";
+const CLASSES: &str =
+    "class P extends Object { P p; P(P p) { super(); this.p = p; } P id(P x) { return x; } } class Q extends P { Q(P p) { super(p); } } class R extends Object { R() { super(); } ";
 
 /// Methods of the class behind them, with the first pair that breaks.
 const BODIES: [Row; 27] = [

@@ -159,8 +159,16 @@ const FORMULAS: [Row; 30] = [
     ("A; features C;", 3, "Unexpected"),
     ("A; int", 3, "Reserved"),
     ("A; x", 3, "Unexpected"),
-    ("A; class A extends Object { A() { super(); } } constraint B;", 47, "Unexpected"),
-    ("A; class A extends Object { A() { super(); } } int", 47, "Unexpected"),
+    (
+        "A; class A extends Object { A() { super(); } } constraint B;",
+        47,
+        "Unexpected",
+    ),
+    (
+        "A; class A extends Object { A() { super(); } } int",
+        47,
+        "Unexpected",
+    ),
 ];
 
 /// Whether each row's text is refused so.
@@ -231,13 +239,25 @@ fn refuses_a_nesting_over_64(rt: HostRuntime) -> Result<(), Fail> {
     let bodies = [("(", "x", ")"), ("x.m(", "x", ")"), ("(A) ", "x", "")];
     for (opens, inner, closes) in bodies {
         let behind = "; } }";
-        assert!(rt; nested(&rt, BEFORE_EXPRESSION, opens, inner, closes, behind, 64)?, "{opens}");
-        assert!(rt; !nested(&rt, BEFORE_EXPRESSION, opens, inner, closes, behind, 65)?, "{opens}");
+        assert!(rt;
+            nested(&rt, BEFORE_EXPRESSION, opens, inner, closes, behind, 64)?,
+            "{opens}"
+        );
+        assert!(rt;
+            !nested(&rt, BEFORE_EXPRESSION, opens, inner, closes, behind, 65)?,
+            "{opens}"
+        );
     }
     for (opens, inner, closes) in [("(", "A", ")"), ("!", "A", ""), ("A -> ", "A", "")] {
         let front = "features A; constraint true | ";
-        assert!(rt; nested(&rt, front, opens, inner, closes, ";", 64)?, "{opens}");
-        assert!(rt; !nested(&rt, front, opens, inner, closes, ";", 65)?, "{opens}");
+        assert!(rt;
+            nested(&rt, front, opens, inner, closes, ";", 64)?,
+            "{opens}"
+        );
+        assert!(rt;
+            !nested(&rt, front, opens, inner, closes, ";", 65)?,
+            "{opens}"
+        );
     }
     let brackets = repeated(rt.alloc(), "(", 65)?;
     let text = format!(in rt.alloc(); "{BEFORE_EXPRESSION}{}", brackets.as_str())?;
@@ -275,7 +295,10 @@ fn refuses_one_node_too_many(rt: HostRuntime) -> Result<(), Fail> {
     ];
     for (argument, last) in rows {
         let text = format!(in alloc; "{BEFORE_EXPRESSION}x.m({most}{argument}")?;
-        assert!(rt; is_refused_behind(&rt, text.as_str(), last, "Limit Nodes")?, "{argument}");
+        assert!(rt;
+            is_refused_behind(&rt, text.as_str(), last, "Limit Nodes")?,
+            "{argument}"
+        );
     }
     let long_cast = format!(in alloc; "{BEFORE_EXPRESSION}x.m({most}({name}) x")?;
     assert!(rt; is_refused_behind(&rt, long_cast.as_str(), 260, "Limit Nodes")?);
@@ -296,7 +319,10 @@ fn refuses_one_parameter_method_or_formula_node_too_many(rt: HostRuntime) -> Res
     assert_eq!(rt; export(&rt, whole.as_str(), ".")?.status, 0);
     params.push_str(", A p16")?;
     assert!(rt; is_refused_behind(&rt, params.as_str(), 3, "Limit Params")?);
-    let mut methods = String::from_str(alloc, "class A extends Object { Object f; A() { super(); } ")?;
+    let mut methods = String::from_str(
+        alloc,
+        "class A extends Object { Object f; A() { super(); } ",
+    )?;
     for i in 0..256 {
         methods.push_str(format!(in alloc; "A m{i}() {{ return this; }} ")?.as_str())?;
     }

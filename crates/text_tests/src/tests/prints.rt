@@ -7,7 +7,10 @@ use std::test::Fail;
 
 /// Constraints behind `features A, B, C;`, and how they are printed.
 const CONSTRAINTS: [(&str, &str); 9] = [
-    ("(A -> B) -> !(A & B) <-> true", "(A -> B) -> !(A & B) <-> true"),
+    (
+        "(A -> B) -> !(A & B) <-> true",
+        "(A -> B) -> !(A & B) <-> true",
+    ),
     ("((A -> (B -> C)))", "A -> B -> C"),
     ("A | (B | C)", "A | (B | C)"),
     ("(A | B) | C", "A | B | C"),
@@ -66,7 +69,10 @@ fn constraints_have_the_fewest_brackets(rt: HostRuntime) -> Result<(), Fail> {
     for (constraint, wanted) in CONSTRAINTS {
         let text = format!(in alloc; "features A,B,C;constraint {constraint};")?;
         let printed = format!(in alloc; "features A, B, C;\nconstraint {wanted};\n")?;
-        assert!(rt; is_reprinted(&rt, text.as_str(), printed.as_str())?, "{constraint}");
+        assert!(rt;
+            is_reprinted(&rt, text.as_str(), printed.as_str())?,
+            "{constraint}"
+        );
     }
     Ok(())
 }
@@ -81,7 +87,10 @@ fn bodies_have_the_fewest_brackets(rt: HostRuntime) -> Result<(), Fail> {
         let printed = format!(in alloc;
             "class C extends Object {{\n  C() {{ super(); }}\n  C m(C x) {{ return {wanted}; }}\n}}\n"
         )?;
-        assert!(rt; is_reprinted(&rt, text.as_str(), printed.as_str())?, "{body}");
+        assert!(rt;
+            is_reprinted(&rt, text.as_str(), printed.as_str())?,
+            "{body}"
+        );
     }
     Ok(())
 }
@@ -142,7 +151,8 @@ fn a_project_with_each_kind_of_mark_has_its_variants(rt: HostRuntime) -> Result<
 
 #[test]
 fn a_marked_argument_goes_with_its_parameter(rt: HostRuntime) -> Result<(), Fail> {
-    let text = "features A; class X extends Object { X() { super(); } Object m(@A X p, Object q) { return q; } Object n(X e, Object y) { return e.m(@A e, y); } }";
+    let text =
+        "features A; class X extends Object { X() { super(); } Object m(@A X p, Object q) { return q; } Object n(X e, Object y) { return e.m(@A e, y); } }";
     let variants = [
         (
             ".",
@@ -185,7 +195,12 @@ fn only_valid_selections_are_exported(rt: HostRuntime) -> Result<(), Fail> {
     assert!(rt; is_line(third.err.as_slice(), "invalid selection: constraint 2"));
     assert_eq!(rt; export(&rt, text, "B")?.status, 0);
     assert_eq!(rt; export(&rt, text, "A,C")?.status, 3);
-    let unwritten = run_over(&rt, &["export", "T", "."], CONSTRAINED.as_bytes(), NO_FAULTS)?;
+    let unwritten = run_over(
+        &rt,
+        &["export", "T", "."],
+        CONSTRAINED.as_bytes(),
+        NO_FAULTS,
+    )?;
     assert_eq!(rt; unwritten.status, 8);
     Ok(())
 }

@@ -1,4 +1,4 @@
-mod bodies;
+mod constraints;
 mod prints;
 mod variants;
 
@@ -128,7 +128,7 @@ const REFUSED: [(&str, &str); 34] = [
     // a field behind the constructor
     (
         "class A extends Object { A() { super(); } Object f; }",
-        "refused at 50: Unexpected",
+        "refused at 42: Unexpected",
     ),
     // an assignment without its semicolon
     (

@@ -21,19 +21,6 @@ const CONSTRAINTS: [(&str, &str); 9] = [
     ("(A <-> B) -> C", "(A <-> B) -> C"),
 ];
 
-/// Bodies of a method, and how they are printed.
-const BODIES: [(&str, &str); 9] = [
-    ("((C) x).f", "((C) x).f"),
-    ("((x)).f", "x.f"),
-    ("(C) x.f", "(C) x.f"),
-    ("((C) ((C) x))", "(C) (C) x"),
-    ("(C)(x)", "(C) x"),
-    ("new C((x).f,(C)x)", "new C(x.f, (C) x)"),
-    ("((C) x).m((((C) x).f))", "((C) x).m(((C) x).f)"),
-    ("(new C(x)).m(this).f", "new C(x).m(this).f"),
-    ("(C) (C) x.m(x, (x), this)", "(C) (C) x.m(x, x, this)"),
-];
-
 /// The print of what a text stands for; nothing where it isn't read, or the sink failed.
 fn reprinted(rt: &HostRuntime, text: &str, fails: &[u64]) -> Result<Option<Vec<u8>>, AllocError> {
     let alloc = rt.alloc();
@@ -77,31 +64,12 @@ fn constraints_have_the_fewest_brackets(rt: HostRuntime) -> Result<(), Fail> {
     Ok(())
 }
 
-#[test]
-fn bodies_have_the_fewest_brackets(rt: HostRuntime) -> Result<(), Fail> {
-    let alloc = rt.alloc();
-    for (body, wanted) in BODIES {
-        let text = format!(in alloc;
-            "class C extends Object{{C(){{super();}}C m(C x){{return {body};}}}}"
-        )?;
-        let printed = format!(in alloc;
-            "class C extends Object {{\n  C() {{ super(); }}\n  C m(C x) {{ return {wanted}; }}\n}}\n"
-        )?;
-        assert!(rt;
-            is_reprinted(&rt, text.as_str(), printed.as_str())?,
-            "{body}"
-        );
-    }
-    Ok(())
-}
-
 /// A project in which each kind of node that may be marked is, by F or by G.
 const MARKED: &str = "features F, G;
 constraint F | G | true;
 @F class A extends Object {
   @G Object f;
   A(@F @G Object f) { super(@F f); @G this.f = f; }
-  @G Object m(@F Object x, Object y) { return this.m(@F new A(@G x), @F y); }
 }
 class B extends Object {
   B() { super(); }
@@ -124,7 +92,6 @@ class B extends Object {
 const BOTH_SELECTED: &str = "class A extends Object {
   Object f;
   A(Object f) { super(f); this.f = f; }
-  Object m(Object x, Object y) { return this.m(new A(x), y); }
 }
 class B extends Object {
   B() { super(); }
@@ -143,28 +110,6 @@ fn a_project_with_each_kind_of_mark_has_its_variants(rt: HostRuntime) -> Result<
     ];
     for (names, wanted) in variants {
         let answer = export(&rt, MARKED, names)?;
-        assert_eq!(rt; answer.status, 0, "{names}");
-        assert!(rt; answer.out.as_slice() == wanted.as_bytes(), "{names}");
-    }
-    Ok(())
-}
-
-#[test]
-fn a_marked_argument_goes_with_its_parameter(rt: HostRuntime) -> Result<(), Fail> {
-    let text =
-        "features A; class X extends Object { X() { super(); } Object m(@A X p, Object q) { return q; } Object n(X e, Object y) { return e.m(@A e, y); } }";
-    let variants = [
-        (
-            ".",
-            "class X extends Object {\n  X() { super(); }\n  Object m(Object q) { return q; }\n  Object n(X e, Object y) { return e.m(y); }\n}\n",
-        ),
-        (
-            "A",
-            "class X extends Object {\n  X() { super(); }\n  Object m(X p, Object q) { return q; }\n  Object n(X e, Object y) { return e.m(e, y); }\n}\n",
-        ),
-    ];
-    for (names, wanted) in variants {
-        let answer = export(&rt, text, names)?;
         assert_eq!(rt; answer.status, 0, "{names}");
         assert!(rt; answer.out.as_slice() == wanted.as_bytes(), "{names}");
     }

@@ -309,3 +309,39 @@ letters w e u h n = record { utf8 = IsUtf8-from_is_utf8 w u; word = ap is_word e
 pub class_word : Reads false true (codes "class") (λ ts. ClassWord ∷ ts)
 unfolding word_token chars is_utf8 encode
 class_word = word (codes "class") (letters (codes "class") refl refl refl (λ e. cc e))
+
+pub extends_word : Reads false true (codes "extends") (λ ts. ExtendsWord ∷ ts)
+unfolding word_token chars is_utf8 encode
+extends_word = word (codes "extends") (letters (codes "extends") refl refl refl (λ e. cc e))
+
+pub super_word : Reads false true (codes "super") (λ ts. SuperWord ∷ ts)
+unfolding word_token chars is_utf8 encode
+super_word = word (codes "super") (letters (codes "super") refl refl refl (λ e. cc e))
+
+pub this_reads : Reads false true (codes "this") (λ ts. ThisWord ∷ ts)
+unfolding word_token chars is_utf8 encode
+this_reads = word (codes "this") (letters (codes "this") refl refl refl (λ e. cc e))
+
+pub new_word : Reads false true (codes "new") (λ ts. NewWord ∷ ts)
+unfolding word_token chars is_utf8 encode
+new_word = word (codes "new") (letters (codes "new") refl refl refl (λ e. cc e))
+
+pub return_word : Reads false true (codes "return") (λ ts. ReturnWord ∷ ts)
+unfolding word_token chars is_utf8 encode
+return_word = word (codes "return") (letters (codes "return") refl refl refl (λ e. cc e))
+
+pub true_reads : Reads false true (codes "true") (λ ts. TrueWord ∷ ts)
+unfolding word_token chars is_utf8 encode
+true_reads = word (codes "true") (letters (codes "true") refl refl refl (λ e. cc e))
+
+pub false_reads : Reads false true (codes "false") (λ ts. FalseWord ∷ ts)
+unfolding word_token chars is_utf8 encode
+false_reads = word (codes "false") (letters (codes "false") refl refl refl (λ e. cc e))
+
+pub features_reads : Reads false true (codes "features") (λ ts. Id (codes "features") ∷ ts)
+unfolding word_token chars is_utf8 encode is_reserved
+features_reads = word (codes "features") (letters (codes "features") refl refl refl (λ e. cc e))
+
+pub constraint_reads : Reads false true (codes "constraint") (λ ts. Id (codes "constraint") ∷ ts)
+unfolding word_token chars is_utf8 encode is_reserved
+constraint_reads = word (codes "constraint") (letters (codes "constraint") refl refl refl (λ e. cc e))

@@ -1,1 +1,3 @@
 pub mod Lexing
+pub mod Features
+pub mod FormulaTrees

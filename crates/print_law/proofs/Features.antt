@@ -21,6 +21,10 @@ not_false : (b : Bool) → not b ≡ true → b ≡ false
 not_false true h = absurd (true≢false (sym h))
 not_false false h = refl
 
+or_right : (a b : Bool) → b ≡ true → (a || b) ≡ true
+or_right true b h = refl
+or_right false b h = h
+
 -- ---- places
 
 at_seam : (p : List ℕ → Bool) (before : List (List ℕ)) (f : List ℕ) (fs : List (List ℕ)) (i : ℕ) → list_any p before ≡ false → p f ≡ true → position_from p i (before ++ f ∷ fs) ≡ Some (i + length before)
@@ -64,6 +68,12 @@ named_at features before (f ∷ fs) (suc i) e d lt =
 -- the name of a feature stands for its number
 pub named_again : (features : List (List ℕ)) (i : ℕ) → are_distinct features ≡ true → i < length features → position (λ g. bytes_eq g (get_or features i [])) features ≡ Some i
 named_again features i d lt = named_at features [] features i refl d lt ∙ ap Some (omega arith)
+
+-- a feature's name is one of the features
+pub has_named : (features : List (List ℕ)) (i : ℕ) → i < length features → has features (get_or features i []) ≡ true
+has_named [] i lt = absurd (omega arith)
+has_named (f ∷ fs) zero lt = rw (same_text f) refl
+has_named (f ∷ fs) (suc i) lt = or_right (bytes_eq f (get_or fs i [])) _ (has_named fs i (omega arith))
 
 -- ---- marks
 

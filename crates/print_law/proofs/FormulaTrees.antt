@@ -1,12 +1,13 @@
 -- Each formula's tree with the fewest brackets: it stands for the formula, and the formula's text gives its tokens.
-use Rattle.std.proofs.Common.{◌≡◌, ℕ, ◌+◌, ◌<◌, Bool, true, false, ◌&&◌, nat_lt, codes, if◌then◌else◌, List, [], ◌∷◌, ◌++◌, length, get_or, refl, sym, ap, subst, ◌∙◌, arith}
+use Rattle.std.proofs.Common.{◌≡◌, ℕ, ◌+◌, ◌<◌, Bool, true, false, ◌&&◌, nat_lt, nat_le, codes, if◌then◌else◌, List, [], ◌∷◌, ◌++◌, length, get_or, refl, sym, ap, subst, ◌∙◌, arith, true≢false}
 use Rattle.std.specs.List.{list_all}
 use Rattle.std.proofs.lemmas.Bool.{and_parts, ltb-true}
+use Rattle.std.proofs.lemmas.List.Folds.{list_all_at}
 use Rattle.cfj_model.specs.declared.formula.Formula.{Formula}
 use Rattle.cfj_model.specs.declared.formula.Formula.TheOpen.{Formula-F}
 use Rattle.cfj_model.specs.declared.formula.Formula.TheVariants as f
 use Rattle.cfj_model.specs.declared.formula.Formula.TheFolds.{fold-Formula}
-use Rattle.cfj_model.specs.Names.{is_identifier, is_short_identifier}
+use Rattle.cfj_model.specs.Names.{is_identifier, is_short_identifier, most_name_bytes}
 use Rattle.cfj_model.specs.Formulas.{is_over_step, is_over}
 use Rattle.cfj_model.specs.FormulaGrammar.{IffTree, one_implies, iff, ImpliesTree, one_or, implies, OrTree, one_and, or, AndTree, one_unary, and, UnaryTree, negated, named, true_word, false_word, bracketed, spell_iff, spell_implies, spell_or, spell_and, spell_unary, feature_at, value_iff, value_implies, value_or, value_and, value_unary}
 use Rattle.cfj_model.specs.Print.{ShownFormula, operand_text, shown_formula_step, formula_text}
@@ -200,3 +201,60 @@ iff_reads (a_unary u) x h = bracket_if 1 x _ false (ap (λ n. nat_lt n 1) h.leve
 between : {text : List ℕ} {t : Token} → Reads true false text (λ ts. t ∷ ts) → {x y : List ℕ} {s u : List Token → List Token} → Reads false true x s → Reads false true y u
     → Reads false true (x ++ ((codes " " ++ (text ++ codes " ")) ++ y)) (λ ts. s (t ∷ u ts))
 between c r q = both r (both (both blank (both (asks_less c) blank)) q)
+
+-- a formula over the features is shown as its tree
+record Printed (features : List (List ℕ)) (x : Formula) : Type 0 where
+  printed : is_over (length features) x ≡ true → IsShown (shape features x) (fold-Formula ShownFormula (shown_formula_step features) x)
+
+shown_as : (s u : Shape) (x y : ShownFormula) → s ≡ u → x ≡ y → IsShown u y → IsShown s x
+shown_as s u x y e d h = subst (λ v. IsShown v x) (sym e) (subst (λ z. IsShown u z) (sym d) h)
+
+-- each of the features is an identifier
+pub named_well : (features : List (List ℕ)) (i : ℕ) → list_all is_short_identifier features ≡ true → i < length features → is_short_identifier (get_or features i []) ≡ true
+named_well features i h lt = go (is_short_identifier (get_or features i [])) refl
+  where
+    go : (b : Bool) → is_short_identifier (get_or features i []) ≡ b → is_short_identifier (get_or features i []) ≡ true
+    go true e = e
+    go false e = absurd (true≢false (sym h ∙ list_all_at is_short_identifier features i [] lt e))
+
+pub as_identifier : (w : List ℕ) → is_short_identifier w ≡ true → is_identifier w ≡ true
+as_identifier w h = (and_parts (is_identifier w) (nat_le (length w) most_name_bytes) h).0
+
+module _ (features : List (List ℕ)) (well : list_all is_short_identifier features ≡ true) where
+  abbrev shaped : Formula-F Shape → Shape
+  shaped = shape_step features
+
+  abbrev shown : Formula-F ShownFormula → ShownFormula
+  shown = shown_formula_step features
+
+  printed_cases : Cases (Printed features)
+  printed_cases = record {
+    true_case = record { printed = λ h. shown_as _ _ _ _ (fold_true Shape shaped) (fold_true ShownFormula shown) (record { level = refl; reads = true_reads }) };
+    false_case = record { printed = λ h. shown_as _ _ _ _ (fold_false Shape shaped) (fold_false ShownFormula shown) (record { level = refl; reads = false_reads }) };
+    feat_case = λ n. record { printed = λ h.
+        shown_as _ _ _ _ (fold_feat Shape shaped n) (fold_feat ShownFormula shown n)
+        (record { level = refl; reads = identifier (get_or features n []) (as_identifier _ (named_well features n well (ltb-true n (length features) (sym (fold_feat Bool (is_over_step (length features)) n) ∙ h)))) }) };
+    not_case = λ x p. record { printed = λ h.
+        shown_as _ _ _ _ (fold_not Shape shaped x) (fold_not ShownFormula shown x)
+        (record { level = refl; reads = both bang (unary_reads _ _ (p.printed (sym (fold_not Bool (is_over_step (length features)) x) ∙ h))) }) };
+    and_case = λ x p y q. record { printed = λ h.
+        let b = and_parts (is_over (length features) x) (is_over (length features) y) (sym (fold_and Bool (is_over_step (length features)) x y) ∙ h) in
+        shown_as _ _ _ _ (fold_and Shape shaped x y) (fold_and ShownFormula shown x y)
+        (record { level = refl; reads = between ampersand (and_reads _ _ (p.printed b.0)) (unary_reads _ _ (q.printed b.1)) }) };
+    or_case = λ x p y q. record { printed = λ h.
+        let b = and_parts (is_over (length features) x) (is_over (length features) y) (sym (fold_or Bool (is_over_step (length features)) x y) ∙ h) in
+        shown_as _ _ _ _ (fold_or Shape shaped x y) (fold_or ShownFormula shown x y)
+        (record { level = refl; reads = between bar (or_reads _ _ (p.printed b.0)) (and_reads _ _ (q.printed b.1)) }) };
+    implies_case = λ x p y q. record { printed = λ h.
+        let b = and_parts (is_over (length features) x) (is_over (length features) y) (sym (fold_implies Bool (is_over_step (length features)) x y) ∙ h) in
+        shown_as _ _ _ _ (fold_implies Shape shaped x y) (fold_implies ShownFormula shown x y)
+        (record { level = refl; reads = between arrow (or_reads _ _ (p.printed b.0)) (implies_reads _ _ (q.printed b.1)) }) };
+    iff_case = λ x p y q. record { printed = λ h.
+        let b = and_parts (is_over (length features) x) (is_over (length features) y) (sym (fold_iff Bool (is_over_step (length features)) x y) ∙ h) in
+        shown_as _ _ _ _ (fold_iff Shape shaped x y) (fold_iff ShownFormula shown x y)
+        (record { level = refl; reads = between double_arrow (iff_reads _ _ (p.printed b.0)) (implies_reads _ _ (q.printed b.1)) }) };
+  }
+
+  -- the text of a formula gives the tokens of its tree
+  pub formula_reads : (x : Formula) → is_over (length features) x ≡ true → Reads false true (formula_text features x) (spell_iff (tree_of_formula features x))
+  formula_reads x h = let s = (by_cases (Printed features) printed_cases x).printed h in s.reads

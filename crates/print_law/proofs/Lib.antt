@@ -1,3 +1,5 @@
 pub mod Lexing
 pub mod Features
 pub mod FormulaTrees
+pub mod Limits
+pub mod FormulaRoles

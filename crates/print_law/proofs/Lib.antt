@@ -3,3 +3,4 @@ pub mod Features
 pub mod FormulaTrees
 pub mod Limits
 pub mod FormulaRoles
+pub mod ExprTrees

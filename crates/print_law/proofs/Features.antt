@@ -21,7 +21,7 @@ not_false : (b : Bool) → not b ≡ true → b ≡ false
 not_false true h = absurd (true≢false (sym h))
 not_false false h = refl
 
-or_right : (a b : Bool) → b ≡ true → (a || b) ≡ true
+pub or_right : (a b : Bool) → b ≡ true → (a || b) ≡ true
 or_right true b h = refl
 or_right false b h = h
 
@@ -54,7 +54,7 @@ split features before f fs e d =
 pub split_place : (features before : List (List ℕ)) (f : List ℕ) (fs : List (List ℕ)) → Split features before f fs → position (λ g. bytes_eq g f) features ≡ Some (length before)
 split_place features before f fs s = ap (position (λ g. bytes_eq g f)) s.whole ∙ place_of_name before f fs s.fresh
 
-split_more : (features before : List (List ℕ)) (f : List ℕ) (fs : List (List ℕ)) → features ≡ before ++ f ∷ fs → features ≡ (before ++ f ∷ []) ++ fs
+pub split_more : (features before : List (List ℕ)) (f : List ℕ) (fs : List (List ℕ)) → features ≡ before ++ f ∷ fs → features ≡ (before ++ f ∷ []) ++ fs
 split_more features before f fs e = e ∙ sym (append_assoc before (f ∷ []) fs)
 
 named_at : (features before fs : List (List ℕ)) (i : ℕ) → features ≡ before ++ fs → are_new before fs ≡ true → i < length fs → position (λ g. bytes_eq g (get_or fs i [])) features ≡ Some (length before + i)

@@ -46,6 +46,10 @@ asks_less r = record { on = λ t ts h. less (r.on t ts h) }
 pub wants_more : {a : Bool} {x : List ℕ} {s : List Token → List Token} → Reads a false x s → Reads a true x s
 wants_more r = record { on = λ t ts h. r.on t ts (less h) }
 
+-- the tokens may be written in another way
+pub respelled : {a b : Bool} {x : List ℕ} {s u : List Token → List Token} → ((ts : List Token) → s ts ≡ u ts) → Reads a b x s → Reads a b x u
+respelled {a} {b} {x} e r = record { on = λ t ts h. subst (Lexes a (x ++ t)) (e ts) (r.on t ts h) }
+
 -- no text
 pub none : {a : Bool} → Reads a a [] (λ ts. ts)
 none = record { on = λ t ts h. h }

@@ -4,3 +4,5 @@ pub mod FormulaTrees
 pub mod Limits
 pub mod FormulaRoles
 pub mod ExprTrees
+pub mod MarkTexts
+pub mod ExprTexts

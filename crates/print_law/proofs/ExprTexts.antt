@@ -63,6 +63,11 @@ received_kind (chain s ss) more = refl
 on_receiver : (t : ExprTree) (s : Shown) (more : StepsTree) (text : List ℕ) (b : Bool) → IsShown t s → Reads true b text (spell_steps more) → Reads false b (receiver_text s ++ text) (spell_expr (received t more))
 on_receiver t s more text b h r = respelled (received_spell t more) (both (receiver_reads t s h) r)
 
+-- the first, where the second doesn't hold
+pub or_left_of : (a b : Bool) → (a || b) ≡ true → b ≡ false → a ≡ true
+or_left_of true b h e = refl
+or_left_of false b h e = absurd (true≢false (sym h ∙ e))
+
 module _ (features : List (List ℕ)) (well : list_all is_short_identifier features ≡ true) where
   abbrev shown : Expr → Shown
   shown = fold-Expr Shown (List ℕ) shown_step (shown_arg features)
@@ -93,13 +98,9 @@ module _ (features : List (List ℕ)) (well : list_all is_short_identifier featu
       let p = and_parts (arg_named y.0) (list_all arg_named (args_of Printed ys)) h in
       arg_reads y p.0 (more_read ys p.1)
 
-  or_right_of : (a b : Bool) → (a || b) ≡ true → b ≡ false → a ≡ true
-  or_right_of true b h e = refl
-  or_right_of false b h e = absurd (true≢false (sym h ∙ e))
-
   var_reads : (name : List ℕ) → is_name name ≡ true → (b : Bool) → bytes_eq name (codes "this") ≡ b → Reads false true name (spell_expr (chain (if b then this_word else variable name) stop))
   var_reads name h true e = subst (λ w. Reads false true w (spell_expr (chain this_word stop))) (sym ((bytes_eq-Decides name (codes "this")).0 e)) this_reads
-  var_reads name h false e = identifier name (as_identifier name (or_right_of (is_short_identifier name) (bytes_eq name (codes "this")) h e))
+  var_reads name h false e = identifier name (as_identifier name (or_left_of (is_short_identifier name) (bytes_eq name (codes "this")) h e))
 
   abbrev named : Expr-F Bool Bool → Bool
   named = is_named_step

@@ -6,3 +6,4 @@ pub mod FormulaRoles
 pub mod ExprTrees
 pub mod MarkTexts
 pub mod ExprTexts
+pub mod ExprRoles

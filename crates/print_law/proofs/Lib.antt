@@ -7,3 +7,4 @@ pub mod ExprTrees
 pub mod MarkTexts
 pub mod ExprTexts
 pub mod ExprRoles
+pub mod ClassTrees

@@ -8,3 +8,4 @@ pub mod MarkTexts
 pub mod ExprTexts
 pub mod ExprRoles
 pub mod ClassTrees
+pub mod ClassTexts

@@ -17,7 +17,7 @@ use Rattle.cfj_model.specs.ProductLines.{has, are_new, are_distinct}
 pub same_text : (w : List ℕ) → bytes_eq w w ≡ true
 same_text w = (bytes_eq-Decides w w).1 refl
 
-not_false : (b : Bool) → not b ≡ true → b ≡ false
+pub not_false : (b : Bool) → not b ≡ true → b ≡ false
 not_false true h = absurd (true≢false (sym h))
 not_false false h = refl
 

@@ -9,3 +9,5 @@ pub mod ExprTexts
 pub mod ExprRoles
 pub mod ClassTrees
 pub mod ClassTexts
+pub mod ClassRoles
+pub mod Law

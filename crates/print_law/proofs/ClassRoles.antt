@@ -1,5 +1,5 @@
 -- The tree of a project, and of each of its classes, is within the limits.
-use Rattle.std.proofs.Common.{◌≡◌, ℕ, ◌+◌, ◌<◌, ◌≤◌, Bool, true, false, not, ◌&&◌, List, [], ◌∷◌, ◌++◌, length, map, Option, None, refl, sym, ap, subst, ◌∙◌, append_assoc, length-append, arith, true≢false}
+use Rattle.std.proofs.Common.{◌≡◌, ℕ, ◌+◌, ◌<◌, ◌≤◌, true, false, not, List, [], ◌∷◌, ◌++◌, length, map, None, refl, sym, ap, subst, ◌∙◌, append_assoc, length-append, arith}
 use Rattle.std.specs.Prelude.{sum_by}
 use Rattle.std.specs.List.{list_all}
 use Rattle.std.specs.Str.{bytes_eq}
@@ -20,9 +20,9 @@ use Rattle.cfj_model.specs.Marks.{in_order, each_behind, separated, roles_marks}
 use Rattle.cfj_model.specs.Names.{is_short_identifier}
 use Rattle.cfj_model.specs.ProductLines.{ProductLine, IsProject, has, are_new, are_distinct, object, is_field, is_param, is_sent, is_method, is_class, is_constraint, method_size, class_size, most_features, most_classes, most_fields, most_in_ctor, most_params, most_methods, most_nodes, most_size, most_formula_nodes}
 use Rattle.cfj_model.specs.ProductLines as project
-use Rattle.cfj_model.specs.Roles.{Role, feature_name, class_name, field_name, method_name, param_name, method_param_name, sent_name, assigned_name, used_name, plain, Tally, nothing, counted, broken_by, AreWithin}
-use Rattle.cfj_model.specs.TreeRoles.{roles_feature, roles_features, roles_field, roles_param, roles_sent, roles_assign, roles_method_param, roles_method, roles_constraint, roles_ctor, roles_class, roles}
-use Rattle.print_law.proofs.ClassTrees.{tree_of_field, tree_of_param, tree_of_sent, tree_of_method, tree_of_class, tree_of, field_kept, param_kept, sent_kept, ParamsKept, SentsKept, method_kept, ClassKept, class_kept, constraint_kept}
+use Rattle.cfj_model.specs.Roles.{Role, param_name, method_param_name, used_name, plain, Tally, nothing, counted, broken_by, AreWithin}
+use Rattle.cfj_model.specs.TreeRoles.{roles_feature, roles_features, roles_field, roles_sent, roles_assign, roles_method, roles_constraint, roles_class, roles}
+use Rattle.print_law.proofs.ClassTrees.{tree_of_field, tree_of_param, tree_of_sent, tree_of_method, tree_of_class, tree_of, field_kept, param_kept, sent_kept, method_kept, class_kept, constraint_kept}
 use Rattle.print_law.proofs.ExprRoles.{with_nodes, expr_within}
 use Rattle.print_law.proofs.ExprTrees.{tree_of_expr}
 use Rattle.print_law.proofs.Features.{not_false}
@@ -59,9 +59,17 @@ module _ (features : List (List ℕ)) (distinct : are_distinct features ≡ true
       let u : Tally = record t { marks = []; fields = t.fields ++ f.name ∷ []; size = t.size + 1 } in
       let longer : length (t.fields ++ f.name ∷ []) ≡ length t.fields + 1 = length-append t.fields (f.name ∷ []) in
       marks_within features f.colors t _ distinct well r
-      (λ ms. (used_ok (record t { marks = ms }) f.of k.of, (field_ok (record t { marks = [] }) f.name k.name n.0 (omega arith) (omega arith), (refl,
-      fields_within fs u rest p.1 (record { met = r.met; marks = refl }) n.1 (omega arith) (omega arith)
-      (moved (with_fields t rest) _ _ _ _ (sym (append_assoc t.fields (f.name ∷ []) (map (λ f. f.name) fs))) (omega arith) w)))))
+      (λ ms. (
+        used_ok (record t { marks = ms }) f.of k.of,
+        (
+          field_ok (record t { marks = [] }) f.name k.name n.0 (omega arith) (omega arith),
+          (
+            refl,
+            fields_within fs u rest p.1 (record { met = r.met; marks = refl }) n.1 (omega arith) (omega arith)
+                (moved (with_fields t rest) _ _ _ _ (sym (append_assoc t.fields (f.name ∷ []) (map (λ f. f.name) fs))) (omega arith) w),
+          ),
+        ),
+      ))
 
   -- ---- parameters
 
@@ -91,8 +99,13 @@ module _ (features : List (List ℕ)) (distinct : are_distinct features ≡ true
         let few = room.few in
         let fits = room.fits in
         marks_within features p.colors t _ distinct well r
-        (λ ms. (used_ok (record t { marks = ms }) p.of k.of, (is.fine (record t { marks = [] }) p.name k.name (new_first t.params p.name (map (λ p. p.name) ps) room.new).0 (omega arith) (omega arith),
-        w _ (is.counts (record t { marks = [] }) p.name))))
+        (λ ms. (
+          used_ok (record t { marks = ms }) p.of k.of,
+          (
+            is.fine (record t { marks = [] }) p.name k.name (new_first t.params p.name (map (λ p. p.name) ps) room.new).0 (omega arith) (omega arith),
+            w _ (is.counts (record t { marks = [] }) p.name),
+          ),
+        ))
 
     more_room : (p : Param) (ps : List Param) (t : Tally) → HasRoom t (p ∷ ps) → HasRoom (record t { marks = []; params = t.params ++ p.name ∷ []; size = t.size + 1 }) ps
     more_room p ps t room =
@@ -111,8 +124,8 @@ module _ (features : List (List ℕ)) (distinct : are_distinct features ≡ true
         let q = and_parts (is_param count p) (list_all (is_param count) ps) h in
         let u : Tally = record t { marks = []; params = t.params ++ p.name ∷ []; size = t.size + 1 } in
         let others : AreWithin u (each_behind plain roles_one (map (tree_of_param features) ps) rest) =
-            params_behind ps u rest q.1 (record { met = r.met; marks = refl }) (more_room p ps t room)
-            (moved (with_params t rest) _ _ _ _ (sym (append_assoc t.params (p.name ∷ []) (map (λ p. p.name) ps))) (omega arith) w) in
+        params_behind ps u rest q.1 (record { met = r.met; marks = refl }) (more_room p ps t room)
+        (moved (with_params t rest) _ _ _ _ (sym (append_assoc t.params (p.name ∷ []) (map (λ p. p.name) ps))) (omega arith) w) in
         (refl, param_within p ps t _ q.0 r room (λ v e. subst (λ x. AreWithin x (each_behind plain roles_one (map (tree_of_param features) ps) rest)) (sym e) others))
 
     params_within : (ps : List Param) (t : Tally) (rest : List Role) → list_all (is_param count) ps ≡ true → IsReady features t → HasRoom t ps
@@ -140,12 +153,16 @@ module _ (features : List (List ℕ)) (distinct : are_distinct features ≡ true
   sends_behind (s ∷ ss) t rest h r few fits w =
       let p = and_parts (is_sent count s) (list_all (is_sent count) ss) h in
       let k = sent_kept count s p.0 in
-      let u : Tally = record t { marks = []; sends = t.sends + 1; size = t.size + 1 } in
-      (refl, marks_within features s.colors t _ distinct well r
-      (λ ms. (sent_ok (record t { marks = ms }) s.name k.name (omega arith) (omega arith),
-      sends_behind ss u rest p.1 (record { met = r.met; marks = refl }) (omega arith) (omega arith)
-      (subst (λ n. AreWithin (record t { marks = []; sends = n; size = t.size + 1 + length ss }) rest) (let e : t.sends + length (s ∷ ss) ≡ t.sends + 1 + length ss = omega arith in e)
-      (subst (λ n. AreWithin (record t { marks = []; sends = t.sends + length (s ∷ ss); size = n }) rest) (let e : t.size + length (s ∷ ss) ≡ t.size + 1 + length ss = omega arith in e) w)))))
+      let u : Tally = record t { marks = []; sends = t.sends + 1; size = t.size + 1 } in (
+        refl,
+        marks_within features s.colors t _ distinct well r
+            (λ ms. (
+              sent_ok (record t { marks = ms }) s.name k.name (omega arith) (omega arith),
+              sends_behind ss u rest p.1 (record { met = r.met; marks = refl }) (omega arith) (omega arith)
+                  (subst (λ n. AreWithin (record t { marks = []; sends = n; size = t.size + 1 + length ss }) rest) (let e : t.sends + length (s ∷ ss) ≡ t.sends + 1 + length ss = omega arith in e)
+                  (subst (λ n. AreWithin (record t { marks = []; sends = t.sends + length (s ∷ ss); size = n }) rest) (let e : t.size + length (s ∷ ss) ≡ t.size + 1 + length ss = omega arith in e) w)),
+            )),
+      )
 
   sends_within : (ss : List Sent) (t : Tally) (rest : List Role) → list_all (is_sent count) ss ≡ true → IsReady features t → t.sends + length ss ≤ most_in_ctor → t.size + length ss ≤ most_size
       → AreWithin (record t { marks = []; sends = t.sends + length ss; size = t.size + length ss }) rest → AreWithin t (separated plain roles_sent (map (tree_of_sent features) ss) rest)
@@ -163,10 +180,27 @@ module _ (features : List (List ℕ)) (distinct : are_distinct features ≡ true
       let k = sent_kept count s p.0 in
       let u : Tally = record t { marks = []; assigns = t.assigns + 1; size = t.size + 1 } in
       marks_within features s.colors t _ distinct well r
-      (λ ms. (refl, (refl, (assigned_ok (record t { marks = ms }) s.name k.name (omega arith) (omega arith), (refl, (used_ok u s.name k.name, (refl,
-      assigns_within ss u rest p.1 (record { met = r.met; marks = refl }) (omega arith) (omega arith)
-      (subst (λ n. AreWithin (record t { marks = []; assigns = n; size = t.size + 1 + length ss }) rest) (let e : t.assigns + length (s ∷ ss) ≡ t.assigns + 1 + length ss = omega arith in e)
-      (subst (λ n. AreWithin (record t { marks = []; assigns = t.assigns + length (s ∷ ss); size = n }) rest) (let e : t.size + length (s ∷ ss) ≡ t.size + 1 + length ss = omega arith in e) w)))))))))
+      (λ ms. (
+        refl,
+        (
+          refl,
+          (
+            assigned_ok (record t { marks = ms }) s.name k.name (omega arith) (omega arith),
+            (
+              refl,
+              (
+                used_ok u s.name k.name,
+                (
+                  refl,
+                  assigns_within ss u rest p.1 (record { met = r.met; marks = refl }) (omega arith) (omega arith)
+                      (subst (λ n. AreWithin (record t { marks = []; assigns = n; size = t.size + 1 + length ss }) rest) (let e : t.assigns + length (s ∷ ss) ≡ t.assigns + 1 + length ss = omega arith in e)
+                      (subst (λ n. AreWithin (record t { marks = []; assigns = t.assigns + length (s ∷ ss); size = n }) rest) (let e : t.size + length (s ∷ ss) ≡ t.size + 1 + length ss = omega arith in e) w)),
+                ),
+              ),
+            ),
+          ),
+        ),
+      ))
 
   -- ---- methods
 
@@ -190,14 +224,22 @@ module _ (features : List (List ℕ)) (distinct : are_distinct features ≡ true
       let v : Tally = record u { params = map (λ p. p.name) m.params; size = t.size + 1 + length m.params } in
       let x : Tally = with_nodes v (node_count m.body) in
       let others : AreWithin x (in_order roles_method (map (tree_of_method features) ms) rest) =
-          methods_within ms x rest p.1 (record { met = r.met; marks = refl }) n.1 (omega arith) (omega (arith, sum))
-          (moved (with_methods t rest) _ _ _ _ (sym (append_assoc t.methods (m.name ∷ []) (map (λ m. m.name) ms))) (omega (arith, sum)) w) in
+      methods_within ms x rest p.1 (record { met = r.met; marks = refl }) n.1 (omega arith) (omega (arith, sum))
+      (moved (with_methods t rest) _ _ _ _ (sym (append_assoc t.methods (m.name ∷ []) (map (λ m. m.name) ms))) (omega (arith, sum)) w) in
       let body : AreWithin v (roles_expr 0 (tree_of_expr features m.body) (plain ∷ (plain ∷ in_order roles_method (map (tree_of_method features) ms) rest))) =
-          expr_within features distinct well m.body v _ k.named k.shallow r.met (omega arith) (omega (arith, sum)) (refl, (refl, others)) in
+      expr_within features distinct well m.body v _ k.named k.shallow r.met (omega arith) (omega (arith, sum)) (refl, (refl, others)) in
       marks_within features m.colors t _ distinct well r
-      (λ ms'. (used_ok (record t { marks = ms' }) m.result k.result, (method_ok (record t { marks = [] }) m.name k.name n.0 (omega arith) (omega (arith, sum)), (refl,
-      params_within method_param_name most_params method_role m.params u _ k.params.each (record { met = r.met; marks = refl }) (record { new = k.params.distinct; few = omega arith; fits = omega (arith, sum) })
-      (refl, (refl, (refl, body)))))))
+      (λ ms'. (
+        used_ok (record t { marks = ms' }) m.result k.result,
+        (
+          method_ok (record t { marks = [] }) m.name k.name n.0 (omega arith) (omega (arith, sum)),
+          (
+            refl,
+            params_within method_param_name most_params method_role m.params u _ k.params.each (record { met = r.met; marks = refl }) (record { new = k.params.distinct; few = omega arith; fits = omega (arith, sum) })
+                (refl, (refl, (refl, body))),
+          ),
+        ),
+      ))
 
   -- ---- a class
 
@@ -220,17 +262,50 @@ module _ (features : List (List ℕ)) (distinct : are_distinct features ≡ true
       let e : Tally = record d { sends = 0 + length k.ctor.sends; size = d.size + length k.ctor.sends } in
       let g : Tally = record e { assigns = 0 + length k.ctor.assigns; size = e.size + length k.ctor.assigns } in
       marks_within features k.colors t _ distinct well r
-      (λ ms. (refl, (class_ok (record t { marks = ms }) k.name c.name (not_false (bytes_eq k.name object) c.no_object) new few (omega arith), (refl, (used_ok a k.parent c.parent, (refl,
-      fields_within k.fields a _ c.each_field (record { met = r.met; marks = refl }) c.fields_distinct (omega arith) (omega arith)
-      (used_ok b k.name c.name, (refl,
-      params_within param_name most_in_ctor ctor_role k.ctor.params b _ c.params.each (record { met = r.met; marks = refl }) (record { new = c.params.distinct; few = omega arith; fits = omega arith })
-      (refl, (refl, (refl, (refl,
-      sends_within k.ctor.sends d _ c.sends.each (record { met = r.met; marks = refl }) (omega arith) (omega arith)
-      (refl, (refl,
-      assigns_within k.ctor.assigns e _ c.assigns.each (record { met = r.met; marks = refl }) (omega arith) (omega arith)
-      (refl,
-      methods_within k.methods g _ c.each_method (record { met = r.met; marks = refl }) c.methods_distinct (omega arith) (omega arith)
-      (λ ps n. (refl, w _ refl refl refl refl (omega arith))))))))))))))))))
+      (λ ms. (
+        refl,
+        (
+          class_ok (record t { marks = ms }) k.name c.name (not_false (bytes_eq k.name object) c.no_object) new few (omega arith),
+          (
+            refl,
+            (
+              used_ok a k.parent c.parent,
+              (
+                refl,
+                fields_within k.fields a _ c.each_field (record { met = r.met; marks = refl }) c.fields_distinct (omega arith) (omega arith) (
+                  used_ok b k.name c.name,
+                  (
+                    refl,
+                    params_within param_name most_in_ctor ctor_role k.ctor.params b _ c.params.each (record { met = r.met; marks = refl }) (record { new = c.params.distinct; few = omega arith; fits = omega arith }) (
+                      refl,
+                      (
+                        refl,
+                        (
+                          refl,
+                          (
+                            refl,
+                            sends_within k.ctor.sends d _ c.sends.each (record { met = r.met; marks = refl }) (omega arith) (omega arith) (
+                              refl,
+                              (
+                                refl,
+                                assigns_within k.ctor.assigns e _ c.assigns.each (record { met = r.met; marks = refl }) (omega arith) (omega arith) (
+                                  refl,
+                                  methods_within k.methods g _ c.each_method (record { met = r.met; marks = refl }) c.methods_distinct (omega arith) (omega arith)
+                                      (λ ps n. (refl, w _ refl refl refl refl (omega arith))),
+                                ),
+                              ),
+                            ),
+                          ),
+                        ),
+                      ),
+                    ),
+                  ),
+                ),
+              ),
+            ),
+          ),
+        ),
+      ))
 
   -- ---- classes
 
@@ -244,7 +319,7 @@ module _ (features : List (List ℕ)) (distinct : are_distinct features ≡ true
       let longer : length (t.classes ++ k.name ∷ []) ≡ length t.classes + 1 = length-append t.classes (k.name ∷ []) in
       class_within k t _ p.0 r n.0 (omega arith) (omega (arith, sum))
       (λ u met marks nodes classes size.
-          classes_within ks u p.1 (record { met = met ∙ r.met; marks = marks }) (subst (λ ws. are_new ws (map (λ k. k.name) ks) ≡ true) (sym classes) n.1) (omega (arith, ap length classes, longer)) (omega (arith, sum, size)))
+      classes_within ks u p.1 (record { met = met ∙ r.met; marks = marks }) (subst (λ ws. are_new ws (map (λ k. k.name) ks) ≡ true) (sym classes) n.1) (omega (arith, ap length classes, longer)) (omega (arith, sum, size)))
 
   -- ---- constraints
 
@@ -256,10 +331,14 @@ module _ (features : List (List ℕ)) (distinct : are_distinct features ≡ true
       let k = constraint_kept count x p.0 in
       let sum : sum_by formula_node_count (x ∷ xs) ≡ formula_node_count x + sum_by formula_node_count xs = sum_by-cons formula_node_count x xs in
       let u : Tally = record t { marks = [] } in
-      let all : AreWithin (record u { formula_nodes = t.formula_nodes + sum_by formula_node_count (x ∷ xs) }) rest = subst (λ ms. AreWithin (record t { marks = ms; formula_nodes = t.formula_nodes + sum_by formula_node_count (x ∷ xs) }) rest) r.marks w in
-      (refl, formula_within features well x u _ k.over k.shallow (record { met = r.met; marks = refl }) (omega (arith, sum))
-      (refl, constraints_within xs (counting u (formula_node_count x)) rest p.1 (record { met = r.met; marks = refl }) (omega (arith, sum))
-      (subst (λ n. AreWithin (record u { formula_nodes = n }) rest) (let e : t.formula_nodes + sum_by formula_node_count (x ∷ xs) ≡ t.formula_nodes + formula_node_count x + sum_by formula_node_count xs = omega (arith, sum) in e) all)))
+      let all : AreWithin (record u { formula_nodes = t.formula_nodes + sum_by formula_node_count (x ∷ xs) }) rest = subst (λ ms. AreWithin (record t { marks = ms; formula_nodes = t.formula_nodes + sum_by formula_node_count (x ∷ xs) }) rest) r.marks w in (
+        refl,
+        formula_within features well x u _ k.over k.shallow (record { met = r.met; marks = refl }) (omega (arith, sum)) (
+          refl,
+          constraints_within xs (counting u (formula_node_count x)) rest p.1 (record { met = r.met; marks = refl }) (omega (arith, sum))
+              (subst (λ n. AreWithin (record u { formula_nodes = n }) rest) (let e : t.formula_nodes + sum_by formula_node_count (x ∷ xs) ≡ t.formula_nodes + formula_node_count x + sum_by formula_node_count xs = omega (arith, sum) in e) all),
+        ),
+      )
 
 -- ---- features
 
@@ -269,9 +348,13 @@ names_within [] t rest h new few w = subst (λ ws. AreWithin (record t { feature
 names_within (f ∷ fs) t rest h new few w =
     let p = and_parts (is_short_identifier f) (list_all is_short_identifier fs) h in
     let n = new_first t.features f fs new in
-    let longer : length (t.features ++ f ∷ []) ≡ length t.features + 1 = length-append t.features (f ∷ []) in
-    (refl, (feature_ok t f p.0 n.0 (omega arith),
-    names_within fs (record t { features = t.features ++ f ∷ [] }) rest p.1 n.1 (omega arith) (subst (λ ws. AreWithin (record t { features = ws }) rest) (sym (append_assoc t.features (f ∷ []) fs)) w)))
+    let longer : length (t.features ++ f ∷ []) ≡ length t.features + 1 = length-append t.features (f ∷ []) in (
+      refl,
+      (
+        feature_ok t f p.0 n.0 (omega arith),
+        names_within fs (record t { features = t.features ++ f ∷ [] }) rest p.1 n.1 (omega arith) (subst (λ ws. AreWithin (record t { features = ws }) rest) (sym (append_assoc t.features (f ∷ []) fs)) w),
+      ),
+    )
 
 features_within : (fs : List (List ℕ)) (rest : List Role) → list_all is_short_identifier fs ≡ true → are_distinct fs ≡ true → length fs ≤ most_features → AreWithin (record nothing { features = fs }) rest → AreWithin nothing (roles_features fs rest)
 features_within [] rest h new few w = w

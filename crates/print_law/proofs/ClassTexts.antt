@@ -1,7 +1,7 @@
 -- The text of a project, and of each of its classes, gives the tokens of its tree.
-use Rattle.std.proofs.Common.{◌≡◌, ℕ, Bool, true, false, ◌&&◌, codes, List, [], ◌∷◌, ◌++◌, length, map, refl, sym, ap, subst, ◌∙◌}
+use Rattle.std.proofs.Common.{◌≡◌, ℕ, Bool, true, false, List, [], ◌∷◌, length, map, refl, subst}
 use Rattle.std.specs.List.{list_all}
-use Rattle.std.specs.Str.{chars, IsUtf8}
+use Rattle.std.specs.Str.{chars}
 use Rattle.std.proofs.lemmas.Bool.{and_parts}
 use Rattle.std.proofs.lemmas.List.{append-nil}
 use Rattle.std.proofs.lemmas.Str.{chars-nil, IsUtf8-nil}
@@ -12,16 +12,16 @@ use Rattle.cfj_model.specs.declared.class.Method.{Method}
 use Rattle.cfj_model.specs.declared.class.Class.{Class}
 use Rattle.cfj_model.specs.declared.formula.Formula.{Formula}
 use Rattle.cfj_model.specs.Grammar.{spell_name, spell_features, spell_field, spell_param, spell_sent, spell_assign, spell_ctor, spell_method, spell_constraint, spell_class, spell}
-use Rattle.cfj_model.specs.Lexemes.{AtEnd, blanks, skipped, lexeme_at, next_lexeme}
+use Rattle.cfj_model.specs.Lexemes.{skipped, lexeme_at, next_lexeme}
 use Rattle.cfj_model.specs.Marks.{in_order, each_behind, separated}
 use Rattle.cfj_model.specs.Names.{is_short_identifier}
-use Rattle.cfj_model.specs.Print.{texts, texts_behind, joined, line_end, name_text, field_text, param_text, sent_text, assign_text, ctor_text, method_text, class_text, features_text, constraint_text, printed}
+use Rattle.cfj_model.specs.Print.{texts, texts_behind, joined, name_text, field_text, param_text, sent_text, assign_text, ctor_text, method_text, class_text, features_text, constraint_text, printed}
 use Rattle.cfj_model.specs.ProductLines.{ProductLine, IsProject, is_field, is_param, is_sent, is_method, is_class, is_constraint, most_in_ctor, most_params}
-use Rattle.cfj_model.specs.Tokens.{Token, Id, Comma, Takes}
-use Rattle.print_law.proofs.ClassTrees.{tree_of_field, tree_of_param, tree_of_sent, tree_of_method, tree_of_class, tree_of, field_kept, param_kept, sent_kept, ParamsKept, SentsKept, method_kept, ClassKept, class_kept, constraint_kept}
+use Rattle.cfj_model.specs.Tokens.{Token, Id, Comma}
+use Rattle.print_law.proofs.ClassTrees.{tree_of_field, tree_of_param, tree_of_sent, tree_of_method, tree_of_class, tree_of, field_kept, param_kept, sent_kept, ParamsKept, method_kept, ClassKept, class_kept, constraint_kept}
 use Rattle.print_law.proofs.ExprTexts.{expr_reads}
 use Rattle.print_law.proofs.FormulaTrees.{as_identifier, formula_reads, tree_of_formula}
-use Rattle.print_law.proofs.Lexing.{Lexes, Reads, both, asks_less, wants_more, none, identifier, blank, line, comma, dot, semicolon, equals, open_paren, close_paren, open_brace, close_brace, class_word, extends_word, super_word, this_reads, return_word, features_reads, constraint_reads}
+use Rattle.print_law.proofs.Lexing.{Lexes, Reads, both, asks_less, none, identifier, blank, line, comma, dot, semicolon, equals, open_paren, close_paren, open_brace, close_brace, class_word, extends_word, super_word, this_reads, return_word, features_reads, constraint_reads}
 use Rattle.print_law.proofs.MarkTexts.{marks_read}
 
 -- ---- lists

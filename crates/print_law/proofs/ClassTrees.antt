@@ -1,12 +1,11 @@
 -- The tree of each declaration, class and product line: where it is numbered, its tree stands for it.
-use Rattle.std.proofs.Common.{◌≡◌, ℕ, ◌+◌, ◌<◌, ◌≤◌, ◌^◌, Bool, true, false, not, ◌&&◌, ◌==◌, nat_le, List, [], ◌∷◌, length, map, refl, sym, ap, subst, ◌∙◌, arith}
+use Rattle.std.proofs.Common.{◌≡◌, ℕ, ◌+◌, ◌<◌, ◌≤◌, ◌^◌, Bool, true, not, ◌&&◌, ◌==◌, nat_le, List, [], ◌∷◌, length, map, refl, sym, ap, ◌∙◌}
 use Rattle.std.specs.List.{list_all}
 use Rattle.std.specs.Str.{bytes_eq}
 use Rattle.std.proofs.lemmas.Bool.{and_parts, and_from, leb-true, ltb-true, eqb-true}
 use Rattle.cfj_model.specs.declared.class.Field.{Field}
 use Rattle.cfj_model.specs.declared.class.Param.{Param}
 use Rattle.cfj_model.specs.declared.class.Sent.{Sent}
-use Rattle.cfj_model.specs.declared.class.Constructor.{Constructor}
 use Rattle.cfj_model.specs.declared.class.Method.{Method}
 use Rattle.cfj_model.specs.declared.class.Class.{Class}
 use Rattle.cfj_model.specs.declared.formula.Formula.{Formula}
@@ -16,7 +15,6 @@ use Rattle.cfj_model.specs.FormulaGrammar.{value_iff}
 use Rattle.cfj_model.specs.Formulas.{is_over, formula_nest}
 use Rattle.cfj_model.specs.Grammar.{Declared, Named, MethodTree, ClassTree, Tree, numbered, value_field, value_param, value_sent, value_ctor, value_method, value_class}
 use Rattle.cfj_model.specs.Grammar as grammar
-use Rattle.cfj_model.specs.Marks.{colors_of}
 use Rattle.cfj_model.specs.Names.{is_short_identifier}
 use Rattle.cfj_model.specs.Numbered.{run_from, is_numbered_ctor, is_numbered_method, is_numbered_class, IsNumbered}
 use Rattle.cfj_model.specs.ProductLines.{ProductLine, IsProject, are_distinct, rise_from, object, is_field, is_param, is_sent, are_params, are_sents, are_fields, is_ctor, is_body, is_method, are_methods, is_class, is_constraint, most_fields, most_in_ctor, most_params, most_methods, most_nodes, most_nest}
@@ -277,10 +275,10 @@ module _ (features : List (List ℕ)) (distinct : are_distinct features ≡ true
       let q = and_parts (is_numbered_ctor k.ctor) (list_all is_numbered_method k.methods) r in
       ap (λ n. record (value_class features (tree_of_class features k)) { colors = n }) (colors_again features k.colors distinct c.colors)
       ∙ ap (λ fs. record k { fields = fs; ctor = value_ctor features (tree_of_class features k); methods = map (value_method features) (map (tree_of_method features) k.methods) })
-        (each_again (value_field features) (tree_of_field features) (is_field count) field_again k.fields c.each_field)
+      (each_again (value_field features) (tree_of_field features) (is_field count) field_again k.fields c.each_field)
       ∙ ap (λ x. record k { ctor = x; methods = map (value_method features) (map (tree_of_method features) k.methods) }) (ctor_again k c q.0)
       ∙ ap (λ ms. record k { methods = ms })
-        (each_again (value_method features) (tree_of_method features) (λ m. is_method count m && is_numbered_method m) method_again k.methods (methods_both k.methods c.each_method q.1))
+      (each_again (value_method features) (tree_of_method features) (λ m. is_method count m && is_numbered_method m) method_again k.methods (methods_both k.methods c.each_method q.1))
 
   constraint_again : (x : Formula) → is_constraint count x ≡ true → value_iff features (tree_of_formula features x) ≡ x
   constraint_again x h = formula_again features distinct x (constraint_kept count x h).over

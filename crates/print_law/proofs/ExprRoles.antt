@@ -1,5 +1,5 @@
 -- The tree of an expression that a project keeps is within the limits.
-use Rattle.std.proofs.Common.{◌≡◌, ℕ, ◌+◌, ◌<◌, ◌≤◌, max, Bool, true, false, ◌&&◌, ◌||◌, codes, if◌then◌else◌, List, [], ◌∷◌, length, map, refl, sym, ap, subst, ◌∙◌, arith, true≢false}
+use Rattle.std.proofs.Common.{◌≡◌, ℕ, ◌+◌, ◌≤◌, max, Bool, true, false, ◌&&◌, codes, if◌then◌else◌, List, [], ◌∷◌, length, map, refl, sym, ap, subst, ◌∙◌, arith}
 use Rattle.std.specs.Prelude.{sum_by}
 use Rattle.std.specs.List.{list_all}
 use Rattle.std.specs.Str.{bytes_eq}
@@ -10,7 +10,7 @@ use Rattle.cfj_model.specs.declared.expr.Arg.{Arg, Arg-F}
 use Rattle.cfj_model.specs.declared.expr.Expr.{Expr}
 use Rattle.cfj_model.specs.declared.expr.Expr.TheOpen.{Expr-F}
 use Rattle.cfj_model.specs.declared.expr.Expr.TheFolds.{fold-Expr}
-use Rattle.cfj_model.specs.ExpressionGrammar.{ExprTree, cast, chain, this_word, variable, bracket, StepsTree, stop, get, call, ArgsTree, MoreArgsTree, roles_expr, roles_start, roles_steps, roles_args, roles_more_args}
+use Rattle.cfj_model.specs.ExpressionGrammar.{ExprTree, cast, chain, this_word, variable, StepsTree, stop, get, call, roles_expr, roles_start, roles_steps, roles_args, roles_more_args}
 use Rattle.cfj_model.specs.Expressions.{of_arg, are_known, is_named_step, is_named_arg, is_named, Nesting, receiver_depth, greatest, nesting_step, nesting_of_arg, nest, node_count_step, node_count}
 use Rattle.cfj_model.specs.Marks.{roles_marks}
 use Rattle.cfj_model.specs.Names.{is_name, is_short_identifier}
@@ -56,17 +56,25 @@ module _ (features : List (List ℕ)) where
   get_fits a m k f h p = record {
     on = λ t d rest r deep room w.
         let few = room.nodes in let small = room.size in
-        p.on t d (node ∷ (used_name f ∷ rest)) r deep (record { nodes = omega arith; size = omega arith })
-        (node_ok (with_nodes t k) (omega arith) (omega arith), (used_ok (with_nodes (with_nodes t k) 1) f h,
-        behind t _ _ _ _ rest (omega arith) (omega arith) w));
+        p.on t d (node ∷ (used_name f ∷ rest)) r deep (record { nodes = omega arith; size = omega arith }) (
+          node_ok (with_nodes t k) (omega arith) (omega arith),
+          (
+            used_ok (with_nodes (with_nodes t k) 1) f h,
+            behind t _ _ _ _ rest (omega arith) (omega arith) w,
+          ),
+        );
   }
 
   -- the name, the bracket that opens, the arguments and the bracket that closes, behind a node
   args_in : (b : ℕ → List Role → List Role) (n l : ℕ) (f : List ℕ) → is_short_identifier f ≡ true → FitsReady features b n l → (t : Tally) (d : ℕ) (rest : List Role) → t.features ≡ features → t.marks ≡ [] → d + 1 + n ≤ most_nest → HasRoom t l
       → AreWithin (with_nodes t l) rest → AreWithin t (used_name f ∷ (opens (d + 1) ∷ b (d + 1) (plain ∷ rest)))
-  args_in b n l f h q t d rest r none deep room w =
-      (used_ok t f h, (opens_ok (record t { marks = [] }) (d + 1) (omega arith),
-      q.on (record t { marks = [] }) (d + 1) (plain ∷ rest) (record { met = r; marks = refl }) deep (record { nodes = room.nodes; size = room.size }) (refl, w)))
+  args_in b n l f h q t d rest r none deep room w = (
+    used_ok t f h,
+    (
+      opens_ok (record t { marks = [] }) (d + 1) (omega arith),
+      q.on (record t { marks = [] }) (d + 1) (plain ∷ rest) (record { met = r; marks = refl }) deep (record { nodes = room.nodes; size = room.size }) (refl, w),
+    ),
+  )
 
   call_fits : (a b : ℕ → List Role → List Role) (m n k l : ℕ) (f : List ℕ) → is_short_identifier f ≡ true → Fits features a m k → FitsReady features b n l
       → Fits features (λ d rest. a d (node ∷ (used_name f ∷ (opens (d + 1) ∷ b (d + 1) (plain ∷ rest))))) (max m (1 + n)) (k + (1 + l))
@@ -74,27 +82,36 @@ module _ (features : List (List ℕ)) where
     on = λ t d rest r deep room w.
         let few = room.nodes in let small = room.size in
         let u : Tally = with_nodes (with_nodes t k) 1 in
-        p.on t d _ r (omega arith) (record { nodes = omega arith; size = omega arith })
-        (node_ok (with_nodes t k) (omega arith) (omega arith),
-        args_in b n l f h q u d rest r refl (omega arith) (record { nodes = omega arith; size = omega arith }) (behind t _ _ _ _ rest (omega arith) (omega arith) w));
+        p.on t d _ r (omega arith) (record { nodes = omega arith; size = omega arith }) (
+          node_ok (with_nodes t k) (omega arith) (omega arith),
+          args_in b n l f h q u d rest r refl (omega arith) (record { nodes = omega arith; size = omega arith }) (behind t _ _ _ _ rest (omega arith) (omega arith) w),
+        );
   }
 
   new_fits : (b : ℕ → List Role → List Role) (n l : ℕ) (f : List ℕ) → is_short_identifier f ≡ true → FitsReady features b n l
       → Fits features (λ d rest. node ∷ (used_name f ∷ (opens (d + 1) ∷ b (d + 1) (plain ∷ rest)))) (1 + n) (1 + l)
   new_fits b n l f h q = record {
     on = λ t d rest r deep room w.
-        let few = room.nodes in let small = room.size in
-        (node_ok t (omega arith) (omega arith),
-        args_in b n l f h q (with_nodes t 1) d rest r refl (omega arith) (record { nodes = omega arith; size = omega arith }) (behind t _ _ _ _ rest (omega arith) (omega arith) w));
+        let few = room.nodes in let small = room.size in (
+          node_ok t (omega arith) (omega arith),
+          args_in b n l f h q (with_nodes t 1) d rest r refl (omega arith) (record { nodes = omega arith; size = omega arith }) (behind t _ _ _ _ rest (omega arith) (omega arith) w),
+        );
   }
 
   cast_fits : (b : ℕ → List Role → List Role) (n l : ℕ) (f : List ℕ) → is_short_identifier f ≡ true → Fits features b n l
       → Fits features (λ d rest. casts (d + 1) ∷ (used_name f ∷ (plain ∷ b (d + 1) rest))) (1 + n) (1 + l)
   cast_fits b n l f h q = record {
     on = λ t d rest r deep room w.
-        let few = room.nodes in let small = room.size in
-        (casts_ok t (d + 1) (omega arith) (omega arith) (omega arith), (used_ok (with_nodes t 1) f h, (refl,
-        q.on (with_nodes t 1) (d + 1) rest r (omega arith) (record { nodes = omega arith; size = omega arith }) (behind t _ _ _ _ rest (omega arith) (omega arith) w))));
+        let few = room.nodes in let small = room.size in (
+          casts_ok t (d + 1) (omega arith) (omega arith) (omega arith),
+          (
+            used_ok (with_nodes t 1) f h,
+            (
+              refl,
+              q.on (with_nodes t 1) (d + 1) rest r (omega arith) (record { nodes = omega arith; size = omega arith }) (behind t _ _ _ _ rest (omega arith) (omega arith) w),
+            ),
+          ),
+        );
   }
 
   brackets_fit : (b : ℕ → List Role → List Role) (n l : ℕ) → Fits features b n l → Fits features (λ d rest. opens (d + 1) ∷ b (d + 1) (plain ∷ rest)) (1 + n) l
@@ -121,8 +138,8 @@ module _ (features : List (List ℕ)) where
         let few = room.nodes in let small = room.size in
         marks_within features colors t (a d (b d rest)) distinct well r
         (λ ms.
-            p.on (record t { marks = ms }) d (b d rest) r.met (omega arith) (record { nodes = omega arith; size = omega arith })
-            (q.on (with_nodes t k) d rest (record { met = r.met; marks = refl }) (omega arith) (record { nodes = omega arith; size = omega arith }) (behind t _ _ _ _ rest (omega arith) (omega arith) w)));
+        p.on (record t { marks = ms }) d (b d rest) r.met (omega arith) (record { nodes = omega arith; size = omega arith })
+        (q.on (with_nodes t k) d rest (record { met = r.met; marks = refl }) (omega arith) (record { nodes = omega arith; size = omega arith }) (behind t _ _ _ _ rest (omega arith) (omega arith) w)));
   }
 
 -- ---- an expression
@@ -186,7 +203,7 @@ module _ (features : List (List ℕ)) (distinct : are_distinct features ≡ true
   one_arg : (y : Proved Nested) (ys : List (Proved Nested)) → list_all arg_named (args_of Nested (y ∷ ys)) ≡ true
       → FitsReady features (λ d. roles_more_args d (more_of (map (tree_of_arg features) (args_of Nested ys)))) (greatest (map arg_depth (args_of Nested ys))) (sum_by (λ n. n) (map arg_count (args_of Nested ys)))
       → FitsReady features (λ d rest. roles_marks (marks_of features (y.0).colors) (roles_expr d (tree_of_expr features (y.0).expr) (roles_more_args d (more_of (map (tree_of_arg features) (args_of Nested ys))) rest)))
-        (greatest (map arg_depth (args_of Nested (y ∷ ys)))) (sum_by (λ n. n) (map arg_count (args_of Nested (y ∷ ys))))
+      (greatest (map arg_depth (args_of Nested (y ∷ ys)))) (sum_by (λ n. n) (map arg_count (args_of Nested (y ∷ ys))))
   one_arg y ys h more =
       let p = and_parts (arg_named y.0) (list_all arg_named (args_of Nested ys)) h in
       let q = and_parts (are_known (length features) (y.0).colors) (is_named (length features) (y.0).expr) p.0 in
@@ -218,33 +235,47 @@ module _ (features : List (List ℕ)) (distinct : are_distinct features ≡ true
 
   nested_cases : Cases Nested
   nested_cases = record {
-    var_case = λ slot name. record { nested = λ h.
-        let k = sym (fold_var Bool Bool named named_arg slot name) ∙ h in
-        nested_as features _ _ _ _ _ _ (fold_var ExprTree ArgTree tree_step step slot name) (fold_var Nesting ℕ nesting_step nesting_of_arg slot name) (fold_var ℕ ℕ node_count_step of_arg slot name)
-        (record { kind = refl; fits = var_fits name k (bytes_eq name (codes "this")) refl }) };
-    get_case = λ slot on ih field. record { nested = λ h.
-        let p = and_parts (is_named (length features) on) (is_short_identifier field) (sym (fold_get Bool Bool named named_arg slot on field) ∙ h) in
-        nested_as features _ _ _ _ _ _ (fold_get ExprTree ArgTree tree_step step slot on field) (fold_get Nesting ℕ nesting_step nesting_of_arg slot on field) (fold_get ℕ ℕ node_count_step of_arg slot on field)
-        (record { kind = received_kind (tree_of_expr features on) (get field stop);
-          fits = fits_as features _ _ _ _ (λ d rest. received_roles d (tree_of_expr features on) (get field stop) rest) (get_fits features _ _ _ field p.1 (receiver_fits features (tree_of_expr features on) (nesting on) (node_count on) (ih.nested p.0))) }) };
-    call_case = λ slot on ih method ys. record { nested = λ h.
-        let args = args_of Nested ys in
-        let p = and_parts (is_named (length features) on && is_short_identifier method) _ (sym (fold_call Bool Bool named named_arg slot on method args) ∙ h) in
-        let q = and_parts (is_named (length features) on) (is_short_identifier method) p.0 in
-        let more = call method (args_tree (map (tree_of_arg features) args)) stop in
-        nested_as features _ _ _ _ _ _ (fold_call ExprTree ArgTree tree_step step slot on method args) (fold_call Nesting ℕ nesting_step nesting_of_arg slot on method args) (fold_call ℕ ℕ node_count_step of_arg slot on method args)
-        (record { kind = received_kind (tree_of_expr features on) more;
-          fits = fits_as features _ _ _ _ (λ d rest. received_roles d (tree_of_expr features on) more rest)
-              (call_fits features _ _ _ _ _ _ method q.1 (receiver_fits features (tree_of_expr features on) (nesting on) (node_count on) (ih.nested q.0)) (args_fit ys (sym (list_all-map (λ b. b) arg_named args) ∙ p.1))) }) };
-    new_case = λ slot class ys. record { nested = λ h.
-        let args = args_of Nested ys in
-        let p = and_parts (is_short_identifier class) _ (sym (fold_new Bool Bool named named_arg slot class args) ∙ h) in
-        nested_as features _ _ _ _ _ _ (fold_new ExprTree ArgTree tree_step step slot class args) (fold_new Nesting ℕ nesting_step nesting_of_arg slot class args) (fold_new ℕ ℕ node_count_step of_arg slot class args)
-        (record { kind = refl; fits = new_fits features _ _ _ class p.0 (args_fit ys (sym (list_all-map (λ b. b) arg_named args) ∙ p.1)) }) };
-    cast_case = λ slot class on ih. record { nested = λ h.
-        let p = and_parts (is_short_identifier class) (is_named (length features) on) (sym (fold_cast Bool Bool named named_arg slot class on) ∙ h) in
-        nested_as features _ _ _ _ _ _ (fold_cast ExprTree ArgTree tree_step step slot class on) (fold_cast Nesting ℕ nesting_step nesting_of_arg slot class on) (fold_cast ℕ ℕ node_count_step of_arg slot class on)
-        (record { kind = refl; fits = cast_fits features _ _ _ class p.0 (ih.nested p.1).fits }) };
+    var_case = λ slot name. record {
+      nested = λ h.
+          let k = sym (fold_var Bool Bool named named_arg slot name) ∙ h in
+          nested_as features _ _ _ _ _ _ (fold_var ExprTree ArgTree tree_step step slot name) (fold_var Nesting ℕ nesting_step nesting_of_arg slot name) (fold_var ℕ ℕ node_count_step of_arg slot name)
+          (record { kind = refl; fits = var_fits name k (bytes_eq name (codes "this")) refl });
+    };
+    get_case = λ slot on ih field. record {
+      nested = λ h.
+          let p = and_parts (is_named (length features) on) (is_short_identifier field) (sym (fold_get Bool Bool named named_arg slot on field) ∙ h) in
+          nested_as features _ _ _ _ _ _ (fold_get ExprTree ArgTree tree_step step slot on field) (fold_get Nesting ℕ nesting_step nesting_of_arg slot on field) (fold_get ℕ ℕ node_count_step of_arg slot on field)
+          (record {
+            kind = received_kind (tree_of_expr features on) (get field stop);
+            fits = fits_as features _ _ _ _ (λ d rest. received_roles d (tree_of_expr features on) (get field stop) rest) (get_fits features _ _ _ field p.1 (receiver_fits features (tree_of_expr features on) (nesting on) (node_count on) (ih.nested p.0)));
+          });
+    };
+    call_case = λ slot on ih method ys. record {
+      nested = λ h.
+          let args = args_of Nested ys in
+          let p = and_parts (is_named (length features) on && is_short_identifier method) _ (sym (fold_call Bool Bool named named_arg slot on method args) ∙ h) in
+          let q = and_parts (is_named (length features) on) (is_short_identifier method) p.0 in
+          let more = call method (args_tree (map (tree_of_arg features) args)) stop in
+          nested_as features _ _ _ _ _ _ (fold_call ExprTree ArgTree tree_step step slot on method args) (fold_call Nesting ℕ nesting_step nesting_of_arg slot on method args) (fold_call ℕ ℕ node_count_step of_arg slot on method args)
+          (record {
+            kind = received_kind (tree_of_expr features on) more;
+            fits = fits_as features _ _ _ _ (λ d rest. received_roles d (tree_of_expr features on) more rest)
+                (call_fits features _ _ _ _ _ _ method q.1 (receiver_fits features (tree_of_expr features on) (nesting on) (node_count on) (ih.nested q.0)) (args_fit ys (sym (list_all-map (λ b. b) arg_named args) ∙ p.1)));
+          });
+    };
+    new_case = λ slot class ys. record {
+      nested = λ h.
+          let args = args_of Nested ys in
+          let p = and_parts (is_short_identifier class) _ (sym (fold_new Bool Bool named named_arg slot class args) ∙ h) in
+          nested_as features _ _ _ _ _ _ (fold_new ExprTree ArgTree tree_step step slot class args) (fold_new Nesting ℕ nesting_step nesting_of_arg slot class args) (fold_new ℕ ℕ node_count_step of_arg slot class args)
+          (record { kind = refl; fits = new_fits features _ _ _ class p.0 (args_fit ys (sym (list_all-map (λ b. b) arg_named args) ∙ p.1)) });
+    };
+    cast_case = λ slot class on ih. record {
+      nested = λ h.
+          let p = and_parts (is_short_identifier class) (is_named (length features) on) (sym (fold_cast Bool Bool named named_arg slot class on) ∙ h) in
+          nested_as features _ _ _ _ _ _ (fold_cast ExprTree ArgTree tree_step step slot class on) (fold_cast Nesting ℕ nesting_step nesting_of_arg slot class on) (fold_cast ℕ ℕ node_count_step of_arg slot class on)
+          (record { kind = refl; fits = cast_fits features _ _ _ class p.0 (ih.nested p.1).fits });
+    };
   }
 
   -- an expression that nests within the limit is within the limits, where there is room for its nodes

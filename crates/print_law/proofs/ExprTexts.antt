@@ -9,7 +9,7 @@ use Rattle.cfj_model.specs.declared.expr.Arg.{Arg, Arg-F}
 use Rattle.cfj_model.specs.declared.expr.Expr.{Expr}
 use Rattle.cfj_model.specs.declared.expr.Expr.TheOpen.{Expr-F}
 use Rattle.cfj_model.specs.declared.expr.Expr.TheFolds.{fold-Expr}
-use Rattle.cfj_model.specs.ExpressionGrammar.{ExprTree, cast, chain, this_word, variable, bracket, StepsTree, stop, get, call, ArgsTree, MoreArgsTree, spell_expr, spell_start, spell_steps, spell_args, spell_more_args}
+use Rattle.cfj_model.specs.ExpressionGrammar.{ExprTree, cast, chain, this_word, variable, StepsTree, stop, get, call, spell_expr, spell_start, spell_steps, spell_args, spell_more_args}
 use Rattle.cfj_model.specs.Expressions.{are_known, is_named_step, is_named_arg, is_named}
 use Rattle.cfj_model.specs.Marks.{spell_marks}
 use Rattle.cfj_model.specs.Names.{is_name, is_short_identifier}
@@ -116,33 +116,47 @@ module _ (features : List (List ℕ)) (well : list_all is_short_identifier featu
 
   printed_cases : Cases Printed
   printed_cases = record {
-    var_case = λ slot name. record { printed = λ h.
-        let k = sym (fold_var Bool Bool named named_arg slot name) ∙ h in
-        shown_as _ _ _ _ (fold_var ExprTree ArgTree tree_step step slot name) (fold_var Shown (List ℕ) shown_step text_step slot name)
-        (record { kind = refl; reads = var_reads name k (bytes_eq name (codes "this")) refl }) };
-    get_case = λ slot on ih field. record { printed = λ h.
-        let p = and_parts (is_named (length features) on) (is_short_identifier field) (sym (fold_get Bool Bool named named_arg slot on field) ∙ h) in
-        shown_as _ _ _ _ (fold_get ExprTree ArgTree tree_step step slot on field) (fold_get Shown (List ℕ) shown_step text_step slot on field)
-        (record { kind = received_kind (tree_of_expr features on) (get field stop); reads = on_receiver (tree_of_expr features on) (shown on) (get field stop) (codes "." ++ field) true (ih.printed p.0) (both dot (identifier field (as_identifier field p.1))) }) };
-    call_case = λ slot on ih method ys. record { printed = λ h.
-        let args = args_of Printed ys in
-        let p = and_parts (is_named (length features) on && is_short_identifier method) _ (sym (fold_call Bool Bool named named_arg slot on method args) ∙ h) in
-        let q = and_parts (is_named (length features) on) (is_short_identifier method) p.0 in
-        let more = call method (args_tree (map (tree_of_arg features) args)) stop in
-        shown_as _ _ _ _ (fold_call ExprTree ArgTree tree_step step slot on method args) (fold_call Shown (List ℕ) shown_step text_step slot on method args)
-        (record { kind = received_kind (tree_of_expr features on) more;
-          reads = on_receiver (tree_of_expr features on) (shown on) more _ true (ih.printed q.0)
-              (both dot (both (identifier method (as_identifier method q.1)) (both open_paren (both (args_read ys (sym (list_all-map (λ b. b) arg_named args) ∙ p.1)) (wants_more close_paren))))) }) };
-    new_case = λ slot class ys. record { printed = λ h.
-        let args = args_of Printed ys in
-        let p = and_parts (is_short_identifier class) _ (sym (fold_new Bool Bool named named_arg slot class args) ∙ h) in
-        shown_as _ _ _ _ (fold_new ExprTree ArgTree tree_step step slot class args) (fold_new Shown (List ℕ) shown_step text_step slot class args)
-        (record { kind = refl;
-          reads = both (both new_word blank) (both (identifier class (as_identifier class p.0)) (both open_paren (both (args_read ys (sym (list_all-map (λ b. b) arg_named args) ∙ p.1)) (wants_more close_paren)))) }) };
-    cast_case = λ slot class on ih. record { printed = λ h.
-        let p = and_parts (is_short_identifier class) (is_named (length features) on) (sym (fold_cast Bool Bool named named_arg slot class on) ∙ h) in
-        shown_as _ _ _ _ (fold_cast ExprTree ArgTree tree_step step slot class on) (fold_cast Shown (List ℕ) shown_step text_step slot class on)
-        (record { kind = refl; reads = both open_paren (both (identifier class (as_identifier class p.0)) (both (both close_paren blank) (ih.printed p.1).reads)) }) };
+    var_case = λ slot name. record {
+      printed = λ h.
+          let k = sym (fold_var Bool Bool named named_arg slot name) ∙ h in
+          shown_as _ _ _ _ (fold_var ExprTree ArgTree tree_step step slot name) (fold_var Shown (List ℕ) shown_step text_step slot name)
+          (record { kind = refl; reads = var_reads name k (bytes_eq name (codes "this")) refl });
+    };
+    get_case = λ slot on ih field. record {
+      printed = λ h.
+          let p = and_parts (is_named (length features) on) (is_short_identifier field) (sym (fold_get Bool Bool named named_arg slot on field) ∙ h) in
+          shown_as _ _ _ _ (fold_get ExprTree ArgTree tree_step step slot on field) (fold_get Shown (List ℕ) shown_step text_step slot on field)
+          (record { kind = received_kind (tree_of_expr features on) (get field stop); reads = on_receiver (tree_of_expr features on) (shown on) (get field stop) (codes "." ++ field) true (ih.printed p.0) (both dot (identifier field (as_identifier field p.1))) });
+    };
+    call_case = λ slot on ih method ys. record {
+      printed = λ h.
+          let args = args_of Printed ys in
+          let p = and_parts (is_named (length features) on && is_short_identifier method) _ (sym (fold_call Bool Bool named named_arg slot on method args) ∙ h) in
+          let q = and_parts (is_named (length features) on) (is_short_identifier method) p.0 in
+          let more = call method (args_tree (map (tree_of_arg features) args)) stop in
+          shown_as _ _ _ _ (fold_call ExprTree ArgTree tree_step step slot on method args) (fold_call Shown (List ℕ) shown_step text_step slot on method args)
+          (record {
+            kind = received_kind (tree_of_expr features on) more;
+            reads = on_receiver (tree_of_expr features on) (shown on) more _ true (ih.printed q.0)
+                (both dot (both (identifier method (as_identifier method q.1)) (both open_paren (both (args_read ys (sym (list_all-map (λ b. b) arg_named args) ∙ p.1)) (wants_more close_paren)))));
+          });
+    };
+    new_case = λ slot class ys. record {
+      printed = λ h.
+          let args = args_of Printed ys in
+          let p = and_parts (is_short_identifier class) _ (sym (fold_new Bool Bool named named_arg slot class args) ∙ h) in
+          shown_as _ _ _ _ (fold_new ExprTree ArgTree tree_step step slot class args) (fold_new Shown (List ℕ) shown_step text_step slot class args)
+          (record {
+            kind = refl;
+            reads = both (both new_word blank) (both (identifier class (as_identifier class p.0)) (both open_paren (both (args_read ys (sym (list_all-map (λ b. b) arg_named args) ∙ p.1)) (wants_more close_paren))));
+          });
+    };
+    cast_case = λ slot class on ih. record {
+      printed = λ h.
+          let p = and_parts (is_short_identifier class) (is_named (length features) on) (sym (fold_cast Bool Bool named named_arg slot class on) ∙ h) in
+          shown_as _ _ _ _ (fold_cast ExprTree ArgTree tree_step step slot class on) (fold_cast Shown (List ℕ) shown_step text_step slot class on)
+          (record { kind = refl; reads = both open_paren (both (identifier class (as_identifier class p.0)) (both (both close_paren blank) (ih.printed p.1).reads)) });
+    };
   }
 
   -- the text of an expression gives the tokens of its tree

@@ -1,5 +1,5 @@
 -- Each expression's tree with the fewest brackets: where the expression is numbered, the tree stands for it.
-use Rattle.std.proofs.Common.{◌≡◌, ℕ, ◌+◌, ◌<◌, ◌^◌, Bool, true, false, ◌&&◌, ◌==◌, nat_lt, codes, if◌then◌else◌, List, [], ◌∷◌, ◌++◌, length, map, flat_map, refl, sym, ap, subst, ◌∙◌, append_assoc, length-append, arith, true≢false}
+use Rattle.std.proofs.Common.{◌≡◌, ℕ, ◌+◌, ◌^◌, Bool, true, false, ◌&&◌, ◌==◌, codes, if◌then◌else◌, List, [], ◌∷◌, ◌++◌, length, map, flat_map, refl, sym, ap, subst, ◌∙◌, append_assoc, length-append, arith}
 use Rattle.std.specs.List.{list_all}
 use Rattle.std.specs.Str.{bytes_eq}
 use Rattle.std.proofs.lemmas.Bool.{and_parts, ltb-true, eqb-true}
@@ -12,9 +12,10 @@ use Rattle.cfj_model.specs.declared.expr.Expr.{Expr}
 use Rattle.cfj_model.specs.declared.expr.Expr.TheOpen.{Expr-F}
 use Rattle.cfj_model.specs.declared.expr.Expr.TheVariants as e
 use Rattle.cfj_model.specs.declared.expr.Expr.TheFolds.{fold-Expr}
-use Rattle.cfj_model.specs.ExpressionGrammar.{ExprTree, cast, chain, StartTree, variable, this_word, made, bracket, StepsTree, stop, get, call, ArgsTree, no_args, first_arg, MoreArgsTree, no_more, next_arg, Numbered, value_expr, value_start, value_steps, value_args, value_more_args}
+use Rattle.cfj_model.specs.ExpressionGrammar.{ExprTree, cast, chain, variable, this_word, made, bracket, StepsTree, stop, get, call, ArgsTree, no_args, first_arg, MoreArgsTree, no_more, next_arg, Numbered, value_expr, value_steps, value_args, value_more_args}
 use Rattle.cfj_model.specs.Expressions.{of_arg, slots_step, slots, are_known, is_named_step, is_named_arg, is_named}
 use Rattle.cfj_model.specs.Marks.{colors_of}
+use Rattle.cfj_model.specs.Names.{is_short_identifier}
 use Rattle.cfj_model.specs.Numbered.{run_from}
 use Rattle.cfj_model.specs.ProductLines.{are_distinct}
 use Rattle.cfj_model.proofs.ExprCases.{Proved, args_of, Cases, by_cases, fold_var, fold_get, fold_call, fold_new, fold_cast}
@@ -158,48 +159,58 @@ module _ (features : List (List ℕ)) where
 
     again_cases : Cases Again
     again_cases = record {
-      var_case = λ slot name. record { again = λ n h k.
-          let s = fold_var (List ℕ) (List ℕ) step of_arg slot name in
-          let r = run_first n slot [] (subst (λ w. run_from n w ≡ true) s h) in
-          ap (value n) (fold_var ExprTree ArgTree tree_step (arg_tree_step features) slot name)
-          ∙ var_value n name (bytes_eq name (codes "this")) refl
-          ∙ numbers _ _ _ _ (ap (λ i. e.Var i name) (sym r.0)) (omega (arith, ap length s)) };
-      get_case = λ slot on ih field. record { again = λ n h k.
-          let s = fold_get (List ℕ) (List ℕ) step of_arg slot on field in
-          let r = run_append n (slots on) (slot ∷ []) (subst (λ w. run_from n w ≡ true) s h) in
-          let i = run_first (n + length (slots on)) slot [] r.1 in
-          let p = and_parts _ _ (sym (fold_get Bool Bool named named_arg slot on field) ∙ k) in
-          ap (value n) (fold_get ExprTree ArgTree tree_step (arg_tree_step features) slot on field)
-          ∙ received_value (tree on) (get field stop) n
-          ∙ ap (λ (v : Numbered Expr). value_steps features v.1 v.0 (get field stop)) (ih.again n r.0 p.0)
-          ∙ numbers _ _ _ _ (ap (λ j. e.Get j on field) (sym i.0)) (omega (arith, ap length s, length-append (slots on) (slot ∷ []))) };
-      call_case = λ slot on ih method ys. record { again = λ n h k.
-          let args = args_of Again ys in
-          let s = fold_call (List ℕ) (List ℕ) step of_arg slot on method args in
-          let r = run_append n (slots on) (slot ∷ arg_slots args) (subst (λ w. run_from n w ≡ true) s h) in
-          let i = run_first (n + length (slots on)) slot (arg_slots args) r.1 in
-          let p = and_parts _ _ (sym (fold_call Bool Bool named named_arg slot on method args) ∙ k) in
-          let q = and_parts _ _ p.0 in
-          ap (value n) (fold_call ExprTree ArgTree tree_step (arg_tree_step features) slot on method args)
-          ∙ received_value (tree on) (call method (args_tree (map arg_tree args)) stop) n
-          ∙ ap (λ (v : Numbered Expr). value_steps features v.1 v.0 (call method (args_tree (map arg_tree args)) stop)) (ih.again n r.0 q.0)
-          ∙ ap (λ (v : Numbered (List Arg)). with_number (e.Call (n + length (slots on)) on method v.0) v.1) (args_again ys (n + length (slots on) + 1) i.1 (sym (list_all-map (λ b. b) arg_named args) ∙ p.1))
-          ∙ numbers _ _ _ _ (ap (λ j. e.Call j on method args) (sym i.0)) (omega (arith, ap length s, length-append (slots on) (slot ∷ arg_slots args))) };
-      new_case = λ slot class ys. record { again = λ n h k.
-          let args = args_of Again ys in
-          let s = fold_new (List ℕ) (List ℕ) step of_arg slot class args in
-          let i = run_first n slot (arg_slots args) (subst (λ w. run_from n w ≡ true) s h) in
-          let p = and_parts _ _ (sym (fold_new Bool Bool named named_arg slot class args) ∙ k) in
-          ap (value n) (fold_new ExprTree ArgTree tree_step (arg_tree_step features) slot class args)
-          ∙ ap (λ (v : Numbered (List Arg)). with_number (e.New n class v.0) v.1) (args_again ys (n + 1) i.1 (sym (list_all-map (λ b. b) arg_named args) ∙ p.1))
-          ∙ numbers _ _ _ _ (ap (λ j. e.New j class args) (sym i.0)) (omega (arith, ap length s)) };
-      cast_case = λ slot class on ih. record { again = λ n h k.
-          let s = fold_cast (List ℕ) (List ℕ) step of_arg slot class on in
-          let i = run_first n slot (slots on) (subst (λ w. run_from n w ≡ true) s h) in
-          let p = and_parts _ _ (sym (fold_cast Bool Bool named named_arg slot class on) ∙ k) in
-          ap (value n) (fold_cast ExprTree ArgTree tree_step (arg_tree_step features) slot class on)
-          ∙ ap (λ (v : Numbered Expr). with_number (e.Cast n class v.0) v.1) (ih.again (n + 1) i.1 p.1)
-          ∙ numbers _ _ _ _ (ap (λ j. e.Cast j class on) (sym i.0)) (omega (arith, ap length s)) };
+      var_case = λ slot name. record {
+        again = λ n h k.
+            let s = fold_var (List ℕ) (List ℕ) step of_arg slot name in
+            let r = run_first n slot [] (subst (λ w. run_from n w ≡ true) s h) in
+            ap (value n) (fold_var ExprTree ArgTree tree_step (arg_tree_step features) slot name)
+            ∙ var_value n name (bytes_eq name (codes "this")) refl
+            ∙ numbers _ _ _ _ (ap (λ i. e.Var i name) (sym r.0)) (omega (arith, ap length s));
+      };
+      get_case = λ slot on ih field. record {
+        again = λ n h k.
+            let s = fold_get (List ℕ) (List ℕ) step of_arg slot on field in
+            let r = run_append n (slots on) (slot ∷ []) (subst (λ w. run_from n w ≡ true) s h) in
+            let i = run_first (n + length (slots on)) slot [] r.1 in
+            let p = and_parts (is_named (length features) on) (is_short_identifier field) (sym (fold_get Bool Bool named named_arg slot on field) ∙ k) in
+            ap (value n) (fold_get ExprTree ArgTree tree_step (arg_tree_step features) slot on field)
+            ∙ received_value (tree on) (get field stop) n
+            ∙ ap (λ (v : Numbered Expr). value_steps features v.1 v.0 (get field stop)) (ih.again n r.0 p.0)
+            ∙ numbers _ _ _ _ (ap (λ j. e.Get j on field) (sym i.0)) (omega (arith, ap length s, length-append (slots on) (slot ∷ [])));
+      };
+      call_case = λ slot on ih method ys. record {
+        again = λ n h k.
+            let args = args_of Again ys in
+            let s = fold_call (List ℕ) (List ℕ) step of_arg slot on method args in
+            let r = run_append n (slots on) (slot ∷ arg_slots args) (subst (λ w. run_from n w ≡ true) s h) in
+            let i = run_first (n + length (slots on)) slot (arg_slots args) r.1 in
+            let p = and_parts (is_named (length features) on && is_short_identifier method) (list_all (λ b. b) (map arg_named args)) (sym (fold_call Bool Bool named named_arg slot on method args) ∙ k) in
+            let q = and_parts (is_named (length features) on) (is_short_identifier method) p.0 in
+            ap (value n) (fold_call ExprTree ArgTree tree_step (arg_tree_step features) slot on method args)
+            ∙ received_value (tree on) (call method (args_tree (map arg_tree args)) stop) n
+            ∙ ap (λ (v : Numbered Expr). value_steps features v.1 v.0 (call method (args_tree (map arg_tree args)) stop)) (ih.again n r.0 q.0)
+            ∙ ap (λ (v : Numbered (List Arg)). with_number (e.Call (n + length (slots on)) on method v.0) v.1) (args_again ys (n + length (slots on) + 1) i.1 (sym (list_all-map (λ b. b) arg_named args) ∙ p.1))
+            ∙ numbers _ _ _ _ (ap (λ j. e.Call j on method args) (sym i.0)) (omega (arith, ap length s, length-append (slots on) (slot ∷ arg_slots args)));
+      };
+      new_case = λ slot class ys. record {
+        again = λ n h k.
+            let args = args_of Again ys in
+            let s = fold_new (List ℕ) (List ℕ) step of_arg slot class args in
+            let i = run_first n slot (arg_slots args) (subst (λ w. run_from n w ≡ true) s h) in
+            let p = and_parts (is_short_identifier class) (list_all (λ b. b) (map arg_named args)) (sym (fold_new Bool Bool named named_arg slot class args) ∙ k) in
+            ap (value n) (fold_new ExprTree ArgTree tree_step (arg_tree_step features) slot class args)
+            ∙ ap (λ (v : Numbered (List Arg)). with_number (e.New n class v.0) v.1) (args_again ys (n + 1) i.1 (sym (list_all-map (λ b. b) arg_named args) ∙ p.1))
+            ∙ numbers _ _ _ _ (ap (λ j. e.New j class args) (sym i.0)) (omega (arith, ap length s));
+      };
+      cast_case = λ slot class on ih. record {
+        again = λ n h k.
+            let s = fold_cast (List ℕ) (List ℕ) step of_arg slot class on in
+            let i = run_first n slot (slots on) (subst (λ w. run_from n w ≡ true) s h) in
+            let p = and_parts (is_short_identifier class) (is_named (length features) on) (sym (fold_cast Bool Bool named named_arg slot class on) ∙ k) in
+            ap (value n) (fold_cast ExprTree ArgTree tree_step (arg_tree_step features) slot class on)
+            ∙ ap (λ (v : Numbered Expr). with_number (e.Cast n class v.0) v.1) (ih.again (n + 1) i.1 p.1)
+            ∙ numbers _ _ _ _ (ap (λ j. e.Cast j class on) (sym i.0)) (omega (arith, ap length s));
+      };
     }
 
     pub expr_again : (x : Expr) → Again x

@@ -1,5 +1,5 @@
 -- The tree of a formula that a project keeps is within the limits.
-use Rattle.std.proofs.Common.{◌≡◌, ℕ, ◌+◌, ◌<◌, ◌≤◌, max, Bool, true, false, ◌&&◌, nat_lt, if◌then◌else◌, List, [], ◌∷◌, length, get_or, refl, sym, ap, subst, ◌∙◌, arith}
+use Rattle.std.proofs.Common.{◌≡◌, ℕ, ◌+◌, ◌<◌, ◌≤◌, max, Bool, true, false, nat_lt, if◌then◌else◌, List, [], ◌∷◌, length, get_or, refl, sym, ap, subst, ◌∙◌, arith}
 use Rattle.std.specs.List.{list_all}
 use Rattle.std.proofs.lemmas.Bool.{and_parts, ltb-true}
 use Rattle.cfj_model.specs.declared.formula.Formula.{Formula}
@@ -7,7 +7,7 @@ use Rattle.cfj_model.specs.declared.formula.Formula.TheOpen.{Formula-F}
 use Rattle.cfj_model.specs.declared.formula.Formula.TheFolds.{fold-Formula}
 use Rattle.cfj_model.specs.Names.{is_short_identifier}
 use Rattle.cfj_model.specs.Formulas.{is_over_step, is_over, FormulaNesting, operand_depth, formula_nesting_step, formula_nest, formula_node_count_step, formula_node_count}
-use Rattle.cfj_model.specs.FormulaGrammar.{IffTree, roles_iff, roles_implies, roles_or, roles_and, roles_unary, bracketed}
+use Rattle.cfj_model.specs.FormulaGrammar.{roles_iff, roles_implies, roles_or, roles_and, roles_unary, bracketed}
 use Rattle.cfj_model.specs.ProductLines.{has, most_nest, most_formula_nodes}
 use Rattle.cfj_model.specs.Roles.{Role, formula_name, formula_node, formula_opens, opens, plain, Tally, AreWithin}
 use Rattle.cfj_model.proofs.FormulaCases.{Cases, by_cases, fold_true, fold_false, fold_feat, fold_not, fold_and, fold_or, fold_implies, fold_iff}
@@ -43,10 +43,11 @@ module _ (features : List (List ℕ)) where
   with_node a b m n k l p q = record {
     on = λ t d rest r deep few w.
         let u : Tally = counting t (k + 1) in
-        p.on t d (formula_node ∷ b d rest) r (omega arith) (omega arith)
-        (formula_node_ok (counting t k) (omega arith),
-        subst (λ x. AreWithin (record t { formula_nodes = x }) (b d rest)) (let e : t.formula_nodes + (k + 1) ≡ t.formula_nodes + k + 1 = omega arith in e)
-        (q.on u d rest (record { met = r.met; marks = r.marks }) (omega arith) (omega arith) (same_count (counting t (k + (1 + l))) _ rest (omega arith) w)));
+        p.on t d (formula_node ∷ b d rest) r (omega arith) (omega arith) (
+          formula_node_ok (counting t k) (omega arith),
+          subst (λ x. AreWithin (record t { formula_nodes = x }) (b d rest)) (let e : t.formula_nodes + (k + 1) ≡ t.formula_nodes + k + 1 = omega arith in e)
+              (q.on u d rest (record { met = r.met; marks = r.marks }) (omega arith) (omega arith) (same_count (counting t (k + (1 + l))) _ rest (omega arith) w)),
+        );
   }
 
   -- an `->` is open to the end of its right side
@@ -54,25 +55,28 @@ module _ (features : List (List ℕ)) where
   with_arrow a b m n k l p q = record {
     on = λ t d rest r deep few w.
         let u : Tally = counting t (k + 1) in
-        p.on t d (formula_opens (d + 1) ∷ b (d + 1) rest) r (omega arith) (omega arith)
-        (formula_opens_ok (counting t k) (d + 1) (omega arith) (omega arith),
-        subst (λ x. AreWithin (record t { formula_nodes = x }) (b (d + 1) rest)) (let e : t.formula_nodes + (k + 1) ≡ t.formula_nodes + k + 1 = omega arith in e)
-        (q.on u (d + 1) rest (record { met = r.met; marks = r.marks }) (omega arith) (omega arith) (same_count (counting t (k + (1 + l))) _ rest (omega arith) w)));
+        p.on t d (formula_opens (d + 1) ∷ b (d + 1) rest) r (omega arith) (omega arith) (
+          formula_opens_ok (counting t k) (d + 1) (omega arith) (omega arith),
+          subst (λ x. AreWithin (record t { formula_nodes = x }) (b (d + 1) rest)) (let e : t.formula_nodes + (k + 1) ≡ t.formula_nodes + k + 1 = omega arith in e)
+              (q.on u (d + 1) rest (record { met = r.met; marks = r.marks }) (omega arith) (omega arith) (same_count (counting t (k + (1 + l))) _ rest (omega arith) w)),
+        );
   }
 
   with_bang : (b : ℕ → List Role → List Role) (n l : ℕ) → Fits features b n l → Fits features (λ d rest. formula_opens (d + 1) ∷ b (d + 1) rest) (1 + n) (1 + l)
   with_bang b n l q = record {
-    on = λ t d rest r deep few w.
-        (formula_opens_ok t (d + 1) (omega arith) (omega arith),
-        q.on (counting t 1) (d + 1) rest (record { met = r.met; marks = r.marks }) (omega arith) (omega arith) (same_count (counting t (1 + l)) _ rest (omega arith) w));
+    on = λ t d rest r deep few w. (
+      formula_opens_ok t (d + 1) (omega arith) (omega arith),
+      q.on (counting t 1) (d + 1) rest (record { met = r.met; marks = r.marks }) (omega arith) (omega arith) (same_count (counting t (1 + l)) _ rest (omega arith) w),
+    );
   }
 
   with_brackets : (b : ℕ → List Role → List Role) (n l : ℕ) → Fits features b n l → Fits features (λ d rest. opens (d + 1) ∷ b (d + 1) (plain ∷ rest)) (1 + n) l
   with_brackets b n l q = record {
-    on = λ t d rest r deep few w.
-        (opens_ok t (d + 1) (omega arith),
-        q.on (record t { marks = [] }) (d + 1) (plain ∷ rest) (record { met = r.met; marks = refl }) (omega arith) few
-        (refl, subst (λ ms. AreWithin (record t { marks = ms; formula_nodes = t.formula_nodes + l }) rest) r.marks w));
+    on = λ t d rest r deep few w. (
+      opens_ok t (d + 1) (omega arith),
+      q.on (record t { marks = [] }) (d + 1) (plain ∷ rest) (record { met = r.met; marks = refl }) (omega arith) few
+          (refl, subst (λ ms. AreWithin (record t { marks = ms; formula_nodes = t.formula_nodes + l }) rest) r.marks w),
+    );
   }
 
 -- the nesting and the nodes are those of the tree, at its level
@@ -143,30 +147,42 @@ module _ (features : List (List ℕ)) (well : list_all is_short_identifier featu
   nested_cases = record {
     true_case = record { nested = λ h. nested_as features _ _ _ _ _ _ (fold_true Shape shaped) (fold_true FormulaNesting step) (fold_true ℕ formula_node_count_step) (record { level = refl; fits = one_node features }) };
     false_case = record { nested = λ h. nested_as features _ _ _ _ _ _ (fold_false Shape shaped) (fold_false FormulaNesting step) (fold_false ℕ formula_node_count_step) (record { level = refl; fits = one_node features }) };
-    feat_case = λ n. record { nested = λ h.
-        let lt : n < length features = ltb-true n (length features) (sym (fold_feat Bool over n) ∙ h) in
-        nested_as features _ _ _ _ _ _ (fold_feat Shape shaped n) (fold_feat FormulaNesting step n) (fold_feat ℕ formula_node_count_step n)
-        (record { level = refl; fits = one_name features (get_or features n []) (named_well features n well lt) (has_named features n lt) }) };
-    not_case = λ x p. record { nested = λ h.
-        let a = p.nested (sym (fold_not Bool over x) ∙ h) in
-        nested_as features _ _ _ _ _ _ (fold_not Shape shaped x) (fold_not FormulaNesting step x) (fold_not ℕ formula_node_count_step x)
-        (record { level = refl; fits = with_bang features _ _ _ (unary_fits features _ _ _ a) }) };
-    and_case = λ x p y q. record { nested = λ h.
-        let b = and_parts (is_over (length features) x) (is_over (length features) y) (sym (fold_and Bool over x y) ∙ h) in
-        nested_as features _ _ _ _ _ _ (fold_and Shape shaped x y) (fold_and FormulaNesting step x y) (fold_and ℕ formula_node_count_step x y)
-        (record { level = refl; fits = with_node features _ _ _ _ _ _ (and_fits features _ _ _ (p.nested b.0)) (unary_fits features _ _ _ (q.nested b.1)) }) };
-    or_case = λ x p y q. record { nested = λ h.
-        let b = and_parts (is_over (length features) x) (is_over (length features) y) (sym (fold_or Bool over x y) ∙ h) in
-        nested_as features _ _ _ _ _ _ (fold_or Shape shaped x y) (fold_or FormulaNesting step x y) (fold_or ℕ formula_node_count_step x y)
-        (record { level = refl; fits = with_node features _ _ _ _ _ _ (or_fits features _ _ _ (p.nested b.0)) (and_fits features _ _ _ (q.nested b.1)) }) };
-    implies_case = λ x p y q. record { nested = λ h.
-        let b = and_parts (is_over (length features) x) (is_over (length features) y) (sym (fold_implies Bool over x y) ∙ h) in
-        nested_as features _ _ _ _ _ _ (fold_implies Shape shaped x y) (fold_implies FormulaNesting step x y) (fold_implies ℕ formula_node_count_step x y)
-        (record { level = refl; fits = with_arrow features _ _ _ _ _ _ (or_fits features _ _ _ (p.nested b.0)) (implies_fits features _ _ _ (q.nested b.1)) }) };
-    iff_case = λ x p y q. record { nested = λ h.
-        let b = and_parts (is_over (length features) x) (is_over (length features) y) (sym (fold_iff Bool over x y) ∙ h) in
-        nested_as features _ _ _ _ _ _ (fold_iff Shape shaped x y) (fold_iff FormulaNesting step x y) (fold_iff ℕ formula_node_count_step x y)
-        (record { level = refl; fits = with_node features _ _ _ _ _ _ (iff_fits features _ _ _ (p.nested b.0)) (implies_fits features _ _ _ (q.nested b.1)) }) };
+    feat_case = λ n. record {
+      nested = λ h.
+          let lt : n < length features = ltb-true n (length features) (sym (fold_feat Bool over n) ∙ h) in
+          nested_as features _ _ _ _ _ _ (fold_feat Shape shaped n) (fold_feat FormulaNesting step n) (fold_feat ℕ formula_node_count_step n)
+          (record { level = refl; fits = one_name features (get_or features n []) (named_well features n well lt) (has_named features n lt) });
+    };
+    not_case = λ x p. record {
+      nested = λ h.
+          let a = p.nested (sym (fold_not Bool over x) ∙ h) in
+          nested_as features _ _ _ _ _ _ (fold_not Shape shaped x) (fold_not FormulaNesting step x) (fold_not ℕ formula_node_count_step x)
+          (record { level = refl; fits = with_bang features _ _ _ (unary_fits features _ _ _ a) });
+    };
+    and_case = λ x p y q. record {
+      nested = λ h.
+          let b = and_parts (is_over (length features) x) (is_over (length features) y) (sym (fold_and Bool over x y) ∙ h) in
+          nested_as features _ _ _ _ _ _ (fold_and Shape shaped x y) (fold_and FormulaNesting step x y) (fold_and ℕ formula_node_count_step x y)
+          (record { level = refl; fits = with_node features _ _ _ _ _ _ (and_fits features _ _ _ (p.nested b.0)) (unary_fits features _ _ _ (q.nested b.1)) });
+    };
+    or_case = λ x p y q. record {
+      nested = λ h.
+          let b = and_parts (is_over (length features) x) (is_over (length features) y) (sym (fold_or Bool over x y) ∙ h) in
+          nested_as features _ _ _ _ _ _ (fold_or Shape shaped x y) (fold_or FormulaNesting step x y) (fold_or ℕ formula_node_count_step x y)
+          (record { level = refl; fits = with_node features _ _ _ _ _ _ (or_fits features _ _ _ (p.nested b.0)) (and_fits features _ _ _ (q.nested b.1)) });
+    };
+    implies_case = λ x p y q. record {
+      nested = λ h.
+          let b = and_parts (is_over (length features) x) (is_over (length features) y) (sym (fold_implies Bool over x y) ∙ h) in
+          nested_as features _ _ _ _ _ _ (fold_implies Shape shaped x y) (fold_implies FormulaNesting step x y) (fold_implies ℕ formula_node_count_step x y)
+          (record { level = refl; fits = with_arrow features _ _ _ _ _ _ (or_fits features _ _ _ (p.nested b.0)) (implies_fits features _ _ _ (q.nested b.1)) });
+    };
+    iff_case = λ x p y q. record {
+      nested = λ h.
+          let b = and_parts (is_over (length features) x) (is_over (length features) y) (sym (fold_iff Bool over x y) ∙ h) in
+          nested_as features _ _ _ _ _ _ (fold_iff Shape shaped x y) (fold_iff FormulaNesting step x y) (fold_iff ℕ formula_node_count_step x y)
+          (record { level = refl; fits = with_node features _ _ _ _ _ _ (iff_fits features _ _ _ (p.nested b.0)) (implies_fits features _ _ _ (q.nested b.1)) });
+    };
   }
 
   -- a formula that nests within the limit is within the limits, where there is room for its nodes

@@ -1,5 +1,5 @@
 -- Each formula's tree with the fewest brackets: it stands for the formula, and the formula's text gives its tokens.
-use Rattle.std.proofs.Common.{◌≡◌, ℕ, ◌+◌, ◌<◌, Bool, true, false, ◌&&◌, nat_lt, nat_le, codes, if◌then◌else◌, List, [], ◌∷◌, ◌++◌, length, get_or, refl, sym, ap, subst, ◌∙◌, arith, true≢false}
+use Rattle.std.proofs.Common.{◌≡◌, ℕ, ◌<◌, Bool, true, false, ◌&&◌, nat_lt, nat_le, codes, if◌then◌else◌, List, [], ◌∷◌, ◌++◌, length, get_or, refl, sym, ap, subst, ◌∙◌, true≢false}
 use Rattle.std.specs.List.{list_all}
 use Rattle.std.proofs.lemmas.Bool.{and_parts, ltb-true}
 use Rattle.std.proofs.lemmas.List.Folds.{list_all_at}
@@ -12,7 +12,7 @@ use Rattle.cfj_model.specs.Formulas.{is_over_step, is_over}
 use Rattle.cfj_model.specs.FormulaGrammar.{IffTree, one_implies, iff, ImpliesTree, one_or, implies, OrTree, one_and, or, AndTree, one_unary, and, UnaryTree, negated, named, true_word, false_word, bracketed, spell_iff, spell_implies, spell_or, spell_and, spell_unary, feature_at, value_iff, value_implies, value_or, value_and, value_unary}
 use Rattle.cfj_model.specs.Print.{ShownFormula, operand_text, shown_formula_step, formula_text}
 use Rattle.cfj_model.specs.ProductLines.{are_distinct}
-use Rattle.cfj_model.specs.Tokens.{Token, Id, TrueWord, FalseWord, OpenParen, CloseParen, Bang, Ampersand, Bar, Arrow, DoubleArrow}
+use Rattle.cfj_model.specs.Tokens.{Token}
 use Rattle.cfj_model.proofs.FormulaCases.{Cases, by_cases, fold_true, fold_false, fold_feat, fold_not, fold_and, fold_or, fold_implies, fold_iff}
 use Rattle.print_law.proofs.Features.{named_again}
 use Rattle.print_law.proofs.Lexing.{Reads, both, asks_less, wants_more, identifier, blank, open_paren, close_paren, bang, ampersand, bar, arrow, double_arrow, true_reads, false_reads}
@@ -129,21 +129,29 @@ module _ (features : List (List ℕ)) (distinct : are_distinct features ≡ true
     false_case = record { again = λ h. ap value (fold_false Shape step) };
     feat_case = λ n. record { again = λ h. ap value (fold_feat Shape step n) ∙ ap feature_at (named_again features n distinct (ltb-true n (length features) (sym (fold_feat Bool (is_over_step (length features)) n) ∙ h))) };
     not_case = λ x p. record { again = λ h. ap value (fold_not Shape step x) ∙ ap f.Not (unary_value features (shape features x) ∙ p.again (sym (fold_not Bool (is_over_step (length features)) x) ∙ h)) };
-    and_case = λ x p y q. record { again = λ h. ap value (fold_and Shape step x y)
-        ∙ ap (λ u. f.And u (value_unary features (to_unary (shape features y)))) (and_value features (shape features x))
-        ∙ ap (f.And (value (shape features x))) (unary_value features (shape features y))
-        ∙ two f.And x y p q (sym (fold_and Bool (is_over_step (length features)) x y) ∙ h) };
-    or_case = λ x p y q. record { again = λ h. ap value (fold_or Shape step x y)
-        ∙ ap (λ u. f.Or u (value_and features (to_and (shape features y)))) (or_value features (shape features x))
-        ∙ ap (f.Or (value (shape features x))) (and_value features (shape features y))
-        ∙ two f.Or x y p q (sym (fold_or Bool (is_over_step (length features)) x y) ∙ h) };
-    implies_case = λ x p y q. record { again = λ h. ap value (fold_implies Shape step x y)
-        ∙ ap (λ u. f.Implies u (value_implies features (to_implies (shape features y)))) (or_value features (shape features x))
-        ∙ ap (f.Implies (value (shape features x))) (implies_value features (shape features y))
-        ∙ two f.Implies x y p q (sym (fold_implies Bool (is_over_step (length features)) x y) ∙ h) };
-    iff_case = λ x p y q. record { again = λ h. ap value (fold_iff Shape step x y)
-        ∙ ap (f.Iff (value (shape features x))) (implies_value features (shape features y))
-        ∙ two f.Iff x y p q (sym (fold_iff Bool (is_over_step (length features)) x y) ∙ h) };
+    and_case = λ x p y q. record {
+      again = λ h. ap value (fold_and Shape step x y)
+          ∙ ap (λ u. f.And u (value_unary features (to_unary (shape features y)))) (and_value features (shape features x))
+          ∙ ap (f.And (value (shape features x))) (unary_value features (shape features y))
+          ∙ two f.And x y p q (sym (fold_and Bool (is_over_step (length features)) x y) ∙ h);
+    };
+    or_case = λ x p y q. record {
+      again = λ h. ap value (fold_or Shape step x y)
+          ∙ ap (λ u. f.Or u (value_and features (to_and (shape features y)))) (or_value features (shape features x))
+          ∙ ap (f.Or (value (shape features x))) (and_value features (shape features y))
+          ∙ two f.Or x y p q (sym (fold_or Bool (is_over_step (length features)) x y) ∙ h);
+    };
+    implies_case = λ x p y q. record {
+      again = λ h. ap value (fold_implies Shape step x y)
+          ∙ ap (λ u. f.Implies u (value_implies features (to_implies (shape features y)))) (or_value features (shape features x))
+          ∙ ap (f.Implies (value (shape features x))) (implies_value features (shape features y))
+          ∙ two f.Implies x y p q (sym (fold_implies Bool (is_over_step (length features)) x y) ∙ h);
+    };
+    iff_case = λ x p y q. record {
+      again = λ h. ap value (fold_iff Shape step x y)
+          ∙ ap (f.Iff (value (shape features x))) (implies_value features (shape features y))
+          ∙ two f.Iff x y p q (sym (fold_iff Bool (is_over_step (length features)) x y) ∙ h);
+    };
   }
 
   pub formula_again : (x : Formula) → is_over (length features) x ≡ true → value_iff features (tree_of_formula features x) ≡ x
@@ -231,28 +239,40 @@ module _ (features : List (List ℕ)) (well : list_all is_short_identifier featu
   printed_cases = record {
     true_case = record { printed = λ h. shown_as _ _ _ _ (fold_true Shape shaped) (fold_true ShownFormula shown) (record { level = refl; reads = true_reads }) };
     false_case = record { printed = λ h. shown_as _ _ _ _ (fold_false Shape shaped) (fold_false ShownFormula shown) (record { level = refl; reads = false_reads }) };
-    feat_case = λ n. record { printed = λ h.
-        shown_as _ _ _ _ (fold_feat Shape shaped n) (fold_feat ShownFormula shown n)
-        (record { level = refl; reads = identifier (get_or features n []) (as_identifier _ (named_well features n well (ltb-true n (length features) (sym (fold_feat Bool (is_over_step (length features)) n) ∙ h)))) }) };
-    not_case = λ x p. record { printed = λ h.
-        shown_as _ _ _ _ (fold_not Shape shaped x) (fold_not ShownFormula shown x)
-        (record { level = refl; reads = both bang (unary_reads _ _ (p.printed (sym (fold_not Bool (is_over_step (length features)) x) ∙ h))) }) };
-    and_case = λ x p y q. record { printed = λ h.
-        let b = and_parts (is_over (length features) x) (is_over (length features) y) (sym (fold_and Bool (is_over_step (length features)) x y) ∙ h) in
-        shown_as _ _ _ _ (fold_and Shape shaped x y) (fold_and ShownFormula shown x y)
-        (record { level = refl; reads = between ampersand (and_reads _ _ (p.printed b.0)) (unary_reads _ _ (q.printed b.1)) }) };
-    or_case = λ x p y q. record { printed = λ h.
-        let b = and_parts (is_over (length features) x) (is_over (length features) y) (sym (fold_or Bool (is_over_step (length features)) x y) ∙ h) in
-        shown_as _ _ _ _ (fold_or Shape shaped x y) (fold_or ShownFormula shown x y)
-        (record { level = refl; reads = between bar (or_reads _ _ (p.printed b.0)) (and_reads _ _ (q.printed b.1)) }) };
-    implies_case = λ x p y q. record { printed = λ h.
-        let b = and_parts (is_over (length features) x) (is_over (length features) y) (sym (fold_implies Bool (is_over_step (length features)) x y) ∙ h) in
-        shown_as _ _ _ _ (fold_implies Shape shaped x y) (fold_implies ShownFormula shown x y)
-        (record { level = refl; reads = between arrow (or_reads _ _ (p.printed b.0)) (implies_reads _ _ (q.printed b.1)) }) };
-    iff_case = λ x p y q. record { printed = λ h.
-        let b = and_parts (is_over (length features) x) (is_over (length features) y) (sym (fold_iff Bool (is_over_step (length features)) x y) ∙ h) in
-        shown_as _ _ _ _ (fold_iff Shape shaped x y) (fold_iff ShownFormula shown x y)
-        (record { level = refl; reads = between double_arrow (iff_reads _ _ (p.printed b.0)) (implies_reads _ _ (q.printed b.1)) }) };
+    feat_case = λ n. record {
+      printed = λ h.
+          shown_as _ _ _ _ (fold_feat Shape shaped n) (fold_feat ShownFormula shown n)
+          (record { level = refl; reads = identifier (get_or features n []) (as_identifier _ (named_well features n well (ltb-true n (length features) (sym (fold_feat Bool (is_over_step (length features)) n) ∙ h)))) });
+    };
+    not_case = λ x p. record {
+      printed = λ h.
+          shown_as _ _ _ _ (fold_not Shape shaped x) (fold_not ShownFormula shown x)
+          (record { level = refl; reads = both bang (unary_reads _ _ (p.printed (sym (fold_not Bool (is_over_step (length features)) x) ∙ h))) });
+    };
+    and_case = λ x p y q. record {
+      printed = λ h.
+          let b = and_parts (is_over (length features) x) (is_over (length features) y) (sym (fold_and Bool (is_over_step (length features)) x y) ∙ h) in
+          shown_as _ _ _ _ (fold_and Shape shaped x y) (fold_and ShownFormula shown x y)
+          (record { level = refl; reads = between ampersand (and_reads _ _ (p.printed b.0)) (unary_reads _ _ (q.printed b.1)) });
+    };
+    or_case = λ x p y q. record {
+      printed = λ h.
+          let b = and_parts (is_over (length features) x) (is_over (length features) y) (sym (fold_or Bool (is_over_step (length features)) x y) ∙ h) in
+          shown_as _ _ _ _ (fold_or Shape shaped x y) (fold_or ShownFormula shown x y)
+          (record { level = refl; reads = between bar (or_reads _ _ (p.printed b.0)) (and_reads _ _ (q.printed b.1)) });
+    };
+    implies_case = λ x p y q. record {
+      printed = λ h.
+          let b = and_parts (is_over (length features) x) (is_over (length features) y) (sym (fold_implies Bool (is_over_step (length features)) x y) ∙ h) in
+          shown_as _ _ _ _ (fold_implies Shape shaped x y) (fold_implies ShownFormula shown x y)
+          (record { level = refl; reads = between arrow (or_reads _ _ (p.printed b.0)) (implies_reads _ _ (q.printed b.1)) });
+    };
+    iff_case = λ x p y q. record {
+      printed = λ h.
+          let b = and_parts (is_over (length features) x) (is_over (length features) y) (sym (fold_iff Bool (is_over_step (length features)) x y) ∙ h) in
+          shown_as _ _ _ _ (fold_iff Shape shaped x y) (fold_iff ShownFormula shown x y)
+          (record { level = refl; reads = between double_arrow (iff_reads _ _ (p.printed b.0)) (implies_reads _ _ (q.printed b.1)) });
+    };
   }
 
   -- the text of a formula gives the tokens of its tree

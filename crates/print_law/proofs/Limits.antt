@@ -1,10 +1,10 @@
 -- Tokens that break no rule and no limit.
-use Rattle.std.proofs.Common.{◌≡◌, ℕ, ◌+◌, ◌<◌, ◌≤◌, Bool, true, false, not, ◌&&◌, nat_lt, nat_le, List, [], ◌∷◌, ◌++◌, length, Option, Some, None, refl, sym, ap, subst, ◌∙◌, arith}
+use Rattle.std.proofs.Common.{◌≡◌, ℕ, ◌<◌, ◌≤◌, true, false, nat_le, List, length, None, refl}
 use Rattle.std.specs.Str.{bytes_eq}
 use Rattle.std.proofs.lemmas.Bool.{and_parts, lt-leb, le-ltb, leb-true}
 use Rattle.cfj_model.specs.Names.{is_identifier, is_short_identifier, most_name_bytes}
 use Rattle.cfj_model.specs.ProductLines.{has, object, most_features, most_classes, most_fields, most_methods, most_params, most_in_ctor, most_nest, most_nodes, most_size, most_formula_nodes}
-use Rattle.cfj_model.specs.Roles.{Role, feature_name, class_name, field_name, method_name, param_name, method_param_name, sent_name, assigned_name, formula_name, formula_node, formula_opens, opens, casts, node, used_name, var_name, mark_name, Tally, is_long, broken_by}
+use Rattle.cfj_model.specs.Roles.{feature_name, class_name, field_name, method_name, param_name, method_param_name, sent_name, assigned_name, formula_name, formula_node, formula_opens, opens, casts, node, used_name, var_name, mark_name, Tally, is_long, broken_by}
 
 -- a short identifier isn't too long
 pub not_long : (w : List ℕ) → is_short_identifier w ≡ true → is_long w ≡ false

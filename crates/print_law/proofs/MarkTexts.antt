@@ -1,19 +1,19 @@
 -- The printed marks of a node give its marks' tokens, and they are within the limits.
-use Rattle.std.proofs.Common.{◌≡◌, ℕ, ◌+◌, Bool, true, false, ◌||◌, codes, if◌then◌else◌, List, [], ◌∷◌, ◌++◌, refl, sym, ap, subst, ◌∙◌, true≢false}
-use Rattle.std.specs.List.{list_all, list_any, enumerate_from}
+use Rattle.std.proofs.Common.{◌≡◌, ℕ, ◌+◌, Bool, true, false, ◌||◌, codes, List, [], ◌∷◌, ◌++◌, refl, sym, ap, ◌∙◌, true≢false}
+use Rattle.std.specs.List.{list_all, enumerate_from}
 use Rattle.std.specs.Str.{bytes_eq}
 use Rattle.std.proofs.lemmas.Bool.{and_parts}
 use Rattle.std.proofs.lemmas.List.Folds.{list_any-append}
 use Rattle.cfj_model.specs.Names.{is_short_identifier}
-use Rattle.cfj_model.specs.Marks.{in_order, spell_mark, spell_marks, roles_mark, roles_marks}
+use Rattle.cfj_model.specs.Marks.{spell_mark, spell_marks, roles_marks}
 use Rattle.cfj_model.specs.Print.{texts, mark_text, marks_text}
 use Rattle.cfj_model.specs.ProductLines.{has, are_new, are_distinct}
-use Rattle.cfj_model.specs.Roles.{Role, mark_name, Tally, AreWithin}
+use Rattle.cfj_model.specs.Roles.{Role, Tally, AreWithin}
 use Rattle.cfj_model.specs.Selections.{has_bit}
 use Rattle.print_law.proofs.Features.{Split, split, split_more, same_text, or_right, marks_from, marks_of}
 use Rattle.print_law.proofs.FormulaRoles.{IsReady}
 use Rattle.print_law.proofs.FormulaTrees.{as_identifier}
-use Rattle.print_law.proofs.Lexing.{Reads, both, asks_less, none, identifier, blank, at_sign}
+use Rattle.print_law.proofs.Lexing.{Reads, both, none, identifier, blank, at_sign}
 use Rattle.print_law.proofs.Limits.{mark_ok}
 
 -- ---- the text

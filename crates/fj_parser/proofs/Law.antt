@@ -1,8 +1,6 @@
 -- The laws of the machine: what it has read begins a text; where it is stuck, no text goes on; and how a misplaced token is named.
 use Rattle.std.proofs.Common.{◌≡◌, ℕ, suc, Bool, true, false, ◌&&◌, ◌||◌, if◌then◌else◌, List, [], ◌∷◌, ◌++◌, length, map, bit_or, codes, Option, Some, None, refl, sym, ◌∙◌, ap, subst, arith}
 use Rattle.std.specs.Str.{chars, bytes_eq}
-use Rattle.std.specs.Str.{is_utf8}
-use lib.Utf8.{encode}
 use Rattle.cfj_model.specs.Names.{is_identifier, is_reserved}
 use Rattle.cfj_model.proofs.Identifiers.{features_is_identifier}
 use Rattle.cfj_model.specs.Tokens.{Token, Id, ClassWord, ExtendsWord, SuperWord, ThisWord, OpenBrace, CloseBrace, OpenParen, CloseParen, Semicolon, Comma, Dot, Equals, At, End, is_reserved_word}
@@ -318,7 +316,7 @@ some_name = codes "$"
 
 -- it is one, whatever Unicode says of other characters
 some_name_is : is_identifier some_name ≡ true
-unfolding is_identifier is_reserved is_utf8 some_name chars encode
+unfolding is_identifier is_reserved some_name chars
 some_name_is = search last_holds
 
 -- Where the name of an assigned field has been read, it is an identifier.

@@ -1,5 +1,5 @@
 -- What is printed reads back.
-use Rattle.std.proofs.Common.{◌≡◌, ℕ, zero, suc, ◌≤◌, Bool, true, List, [], ◌∷◌, length, sym, ap, subst, arith}
+use Rattle.std.proofs.Common.{◌≡◌, ℕ, zero, suc, ◌≤◌, Bool, true, List, [], ◌∷◌, length, sym, ap, subst, ◌∙◌, arith}
 use Rattle.std.specs.Prelude.{Option, Some, None, IfSome, IsTrue, slice_get}
 use Rattle.std.specs.List.{list_all}
 use Rattle.std.proofs.lemmas.Bool.{and_parts, leb-true}
@@ -12,6 +12,7 @@ use Rattle.cfj_model.specs.Print.{printed, class_text}
 use Rattle.cfj_model.specs.ProductLines.{ProductLine, IsProject, are_distinct, is_class, class_size, size, most_size}
 use Rattle.print_law.proofs.ClassRoles.{project_within, alone_within}
 use Rattle.print_law.proofs.ClassTexts.{project_reads, class_reads, alone}
+use Rattle.print_law.proofs.Numbering.{class_numbered, value_numbered}
 use Rattle.print_law.proofs.ClassTrees.{tree_of, tree_of_class, project_again, class_again}
 
 -- the print of a numbered project is a text that stands for it
@@ -63,3 +64,10 @@ found_law p place is (Some k) e n = place_law p place k is e n
 -- each class of a numbered project is numbered
 pub numbered_at : (p : ProductLine) (place : ℕ) (k : Class) → IsNumbered p → slice_get p.classes place ≡ Some k → is_numbered_class k ≡ true
 numbered_at p place k n e = at_place is_numbered_class p.classes place k n e
+
+-- what a text stands for is numbered
+pub read_numbered : (text : List ℕ) (p : ProductLine) → IsTextOf projects text p → IsNumbered p
+read_numbered text p is = subst IsNumbered (sym is.valued) (value_numbered is.tree)
+
+pub class_read_numbered : (features : List (List ℕ)) (text : List ℕ) (k : Class) → IsTextOf (single_classes features) text k → is_numbered_class k ≡ true
+class_read_numbered features text k is = ap is_numbered_class is.valued ∙ class_numbered features is.tree

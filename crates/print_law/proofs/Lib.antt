@@ -11,3 +11,4 @@ pub mod ClassTrees
 pub mod ClassTexts
 pub mod ClassRoles
 pub mod Law
+pub mod Numbering

@@ -5,12 +5,12 @@
 //! that only asks what a project's type keeps.
 #![tactic(auto)]
 
-ghost use Rattle.std.specs.Prelude.{◌≡◌, IfSome, IsTrue, slice_get};
+ghost use Rattle.std.specs.Prelude.{IfSome, IsTrue, slice_get};
 ghost use Rattle.cfj_model.specs.Faults.{IsTextOf, projects, single_classes};
 ghost use Rattle.cfj_model.specs.Numbered.{IsNumbered, is_numbered_class};
 ghost use Rattle.cfj_model.specs.Print.{class_text, printed};
 
-use cfj_model::Project;
+use cfj_model::{Class, FeatureModel, Project};
 
 /// The print of a numbered project is a text of the grammar that stands for that project.
 pub fn print_reads_back(project: &Project)
@@ -27,3 +27,15 @@ pub fn class_reads_back(project: &Project, place: usize)
 {
     let _kept = project.model();
 }
+
+/// The project that a text of the grammar stands for is numbered, so that its print reads back.
+pub fn read_is_numbered(project: &Project, text: &str)
+    requires read { IsTextOf projects text.now project.now }
+    ensures { IsNumbered project.now }
+{}
+
+/// And so is the class that a text stands for among declared features.
+pub fn read_class_is_numbered(model: &FeatureModel, class: &Class, text: &str)
+    requires read { IsTextOf (single_classes model.now.features) text.now class.now }
+    ensures { IsTrue (is_numbered_class class.now) }
+{}

@@ -3,7 +3,7 @@ use Rattle.std.proofs.Common.{◌≡◌, ℕ, ◌+◌, ◌<◌, ◌≤◌, true,
 use Rattle.std.specs.Prelude.{sum_by}
 use Rattle.std.specs.List.{list_all}
 use Rattle.std.specs.Str.{bytes_eq}
-use Rattle.std.proofs.lemmas.Bool.{and_parts, leb-true}
+use Rattle.std.proofs.lemmas.Bool.{and_parts, leb-true, not-true}
 use Rattle.std.proofs.lemmas.List.{append-nil}
 use Rattle.std.proofs.lemmas.List.Sums.{sum_by-cons}
 use Rattle.cfj_model.specs.declared.class.Field.{Field}
@@ -25,7 +25,6 @@ use Rattle.cfj_model.specs.TreeRoles.{roles_feature, roles_features, roles_field
 use Rattle.print_law.proofs.ClassTrees.{tree_of_field, tree_of_param, tree_of_sent, tree_of_method, tree_of_class, tree_of, field_kept, param_kept, sent_kept, method_kept, class_kept, constraint_kept}
 use Rattle.print_law.proofs.ExprRoles.{with_nodes, expr_within}
 use Rattle.print_law.proofs.ExprTrees.{tree_of_expr}
-use Rattle.print_law.proofs.Features.{not_false}
 use Rattle.print_law.proofs.FormulaRoles.{IsReady, counting, formula_within}
 use Rattle.print_law.proofs.FormulaTrees.{tree_of_formula}
 use Rattle.print_law.proofs.Limits.{used_ok, feature_ok, class_ok, field_ok, method_ok, param_ok, method_param_ok, sent_ok, assigned_ok}
@@ -37,7 +36,7 @@ moved P xs ys m n e f h = subst (λ zs. P zs n) e (subst (P xs) f h)
 
 -- the first of new names, and the others behind it
 new_first : (before : List (List ℕ)) (w : List ℕ) (ws : List (List ℕ)) → are_new before (w ∷ ws) ≡ true → (has before w ≡ false) × (are_new (before ++ w ∷ []) ws ≡ true)
-new_first before w ws h = let p = and_parts (not (has before w)) (are_new (before ++ w ∷ []) ws) h in (not_false (has before w) p.0, p.1)
+new_first before w ws h = let p = and_parts (not (has before w)) (are_new (before ++ w ∷ []) ws) h in (not-true (has before w) p.0, p.1)
 
 module _ (features : List (List ℕ)) (distinct : are_distinct features ≡ true) (well : list_all is_short_identifier features ≡ true) where
   abbrev count : ℕ
@@ -265,7 +264,7 @@ module _ (features : List (List ℕ)) (distinct : are_distinct features ≡ true
       (λ ms. (
         refl,
         (
-          class_ok (record t { marks = ms }) k.name c.name (not_false (bytes_eq k.name object) c.no_object) new few (omega arith),
+          class_ok (record t { marks = ms }) k.name c.name (not-true (bytes_eq k.name object) c.no_object) new few (omega arith),
           (
             refl,
             (

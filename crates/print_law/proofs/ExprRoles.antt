@@ -17,7 +17,7 @@ use Rattle.cfj_model.specs.Names.{is_name, is_short_identifier}
 use Rattle.cfj_model.specs.ProductLines.{are_distinct, most_nest, most_nodes, most_size}
 use Rattle.cfj_model.specs.Roles.{Role, casts, node, opens, plain, used_name, var_name, Tally, AreWithin}
 use Rattle.cfj_model.proofs.ExprCases.{Proved, args_of, Cases, by_cases, fold_var, fold_get, fold_call, fold_new, fold_cast}
-use Rattle.print_law.proofs.ExprTexts.{is_cast_tree, or_left_of}
+use Rattle.print_law.proofs.ExprTexts.{is_cast_tree, received_kind, or_left_of}
 use Rattle.print_law.proofs.ExprTrees.{ArgTree, more_of, args_tree, with_steps, received, tree_step, arg_tree_step, tree_of_expr, tree_of_arg}
 use Rattle.print_law.proofs.Features.{marks_of}
 use Rattle.print_law.proofs.FormulaRoles.{IsReady}
@@ -175,10 +175,6 @@ receiver_as features n k roles b e p = subst (λ c. Fits features roles (if c th
 receiver_fits : (features : List (List ℕ)) (t : ExprTree) (n : Nesting) (k : ℕ) → IsNested features t n k → Fits features (λ d. roles_received d t) (receiver_depth n) k
 receiver_fits features (cast c t) n k h = receiver_as features n k _ true h.kind (brackets_fit features (λ d. roles_expr d (cast c t)) n.depth k h.fits)
 receiver_fits features (chain s ss) n k h = receiver_as features n k _ false h.kind h.fits
-
-received_kind : (t : ExprTree) (more : StepsTree) → false ≡ is_cast_tree (received t more)
-received_kind (cast c t) more = refl
-received_kind (chain s ss) more = refl
 
 module _ (features : List (List ℕ)) (distinct : are_distinct features ≡ true) (well : list_all is_short_identifier features ≡ true) where
   abbrev nesting : Expr → Nesting

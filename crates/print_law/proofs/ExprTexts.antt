@@ -55,7 +55,8 @@ receiver_reads : (t : ExprTree) (s : Shown) → IsShown t s → Reads false true
 receiver_reads (cast c t) s h = receiver_as s _ true h.kind (both open_paren (both h.reads (wants_more close_paren)))
 receiver_reads (chain c t) s h = receiver_as s _ false h.kind h.reads
 
-received_kind : (t : ExprTree) (more : StepsTree) → false ≡ is_cast_tree (received t more)
+-- with steps behind it nothing is a cast
+pub received_kind : (t : ExprTree) (more : StepsTree) → false ≡ is_cast_tree (received t more)
 received_kind (cast c t) more = refl
 received_kind (chain s ss) more = refl
 

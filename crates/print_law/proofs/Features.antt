@@ -3,7 +3,7 @@ use Rattle.std.proofs.Common.{◌≡◌, ◌≢◌, ℕ, zero, suc, ◌+◌, ◌
 use Rattle.std.specs.Int.{bit_at}
 use Rattle.std.specs.List.{list_any, position_from}
 use Rattle.std.specs.Str.{bytes_eq}
-use Rattle.std.proofs.lemmas.Bool.{and_parts, eqb-true}
+use Rattle.std.proofs.lemmas.Bool.{and_parts, eqb-true, not-true}
 use Rattle.std.proofs.lemmas.Bool.Decides.{eqb_tells, leb_tells}
 use Rattle.std.proofs.lemmas.Iterator.Adapters.{position_from-zero}
 use Rattle.std.proofs.lemmas.List.{append-nil}
@@ -16,10 +16,6 @@ use Rattle.cfj_model.specs.ProductLines.{has, are_new, are_distinct}
 -- a text is equal to itself
 pub same_text : (w : List ℕ) → bytes_eq w w ≡ true
 same_text w = (bytes_eq-Decides w w).1 refl
-
-pub not_false : (b : Bool) → not b ≡ true → b ≡ false
-not_false true h = absurd (true≢false (sym h))
-not_false false h = refl
 
 pub or_right : (a b : Bool) → b ≡ true → (a || b) ≡ true
 or_right true b h = refl
@@ -49,7 +45,7 @@ pub record Split (features before : List (List ℕ)) (f : List ℕ) (fs : List (
 pub split : (features before : List (List ℕ)) (f : List ℕ) (fs : List (List ℕ)) → features ≡ before ++ f ∷ fs → are_new before (f ∷ fs) ≡ true → Split features before f fs
 split features before f fs e d =
     let p = and_parts (not (has before f)) (are_new (before ++ f ∷ []) fs) d in
-    record { whole = e; fresh = not_false (has before f) p.0; others = p.1 }
+    record { whole = e; fresh = not-true (has before f) p.0; others = p.1 }
 
 pub split_place : (features before : List (List ℕ)) (f : List ℕ) (fs : List (List ℕ)) → Split features before f fs → position (λ g. bytes_eq g f) features ≡ Some (length before)
 split_place features before f fs s = ap (position (λ g. bytes_eq g f)) s.whole ∙ place_of_name before f fs s.fresh

@@ -4,7 +4,7 @@ use Rattle.std.proofs.Common.{◌≡◌, ◌≢◌, ℕ, ◌<◌, ◌==◌, Bool
 use Rattle.std.specs.List.{list_all}
 use Rattle.std.specs.Str.{chars, is_utf8, IsUtf8}
 use Rattle.std.specs.Char.{is_ascii_alphabetic, is_ascii_alphanumeric}
-use Rattle.std.proofs.lemmas.Bool.{and_parts, and_from, eqb-true, ltb-true}
+use Rattle.std.proofs.lemmas.Bool.{and_parts, and_from, eqb-true, ltb-true, not-true}
 use Rattle.std.proofs.lemmas.Str.{IsUtf8-append, IsUtf8-from_is_utf8, chars_past_char, chars-append, encode_ascii, encodes-chars}
 use lib.Utf8.{scalars, encode}
 use Rattle.cfj_model.proofs.AsciiWords.{starts_ascii, continues_ascii}
@@ -53,10 +53,6 @@ respelled {a} {b} {x} e r = record { on = λ t ts h. subst (Lexes a (x ++ t)) (e
 -- no text
 pub none : {a : Bool} → Reads a a [] (λ ts. ts)
 none = record { on = λ t ts h. h }
-
-not_true : (b : Bool) → not b ≡ true → b ≡ false
-not_true true h = absurd (true≢false (sym h))
-not_true false h = refl
 
 -- ---- one character
 
@@ -231,13 +227,13 @@ double_arrow {a} = record {
 run_apart : (cs tail : List ℕ) → list_all continues_word cs ≡ true → is_apart true tail ≡ true → word_run (cs ++ tail) ≡ cs
 unfolding word_run
 run_apart [] [] h a = refl
-run_apart [] (c ∷ tail) h a = rw (not_true (continues_word c) a) refl
+run_apart [] (c ∷ tail) h a = rw (not-true (continues_word c) a) refl
 run_apart (c ∷ cs) tail h a = let p = and_parts (continues_word c) (list_all continues_word cs) h in rw p.0 (ap (λ w. c ∷ w) (run_apart cs tail p.1 a))
 
 rest_apart : (cs tail : List ℕ) → list_all continues_word cs ≡ true → is_apart true tail ≡ true → word_rest (cs ++ tail) ≡ tail
 unfolding word_rest
 rest_apart [] [] h a = refl
-rest_apart [] (c ∷ tail) h a = rw (not_true (continues_word c) a) refl
+rest_apart [] (c ∷ tail) h a = rw (not-true (continues_word c) a) refl
 rest_apart (c ∷ cs) tail h a = let p = and_parts (continues_word c) (list_all continues_word cs) h in rw p.0 (rest_apart cs tail p.1 a)
 
 -- what begins a word is none of these
@@ -284,7 +280,7 @@ unfolding is_identifier
 identifier w h =
     let p = and_parts (is_utf8 w && is_word (chars w)) (not (is_reserved w)) h in
     let q = and_parts (is_utf8 w) (is_word (chars w)) p.0 in
-    subst (λ t. Reads false true w (λ ts. t ∷ ts)) (identifier_is w (not_true (is_reserved w) p.1)) (word w (record { utf8 = IsUtf8-from_is_utf8 w q.0; word = q.1 }))
+    subst (λ t. Reads false true w (λ ts. t ∷ ts)) (identifier_is w (not-true (is_reserved w) p.1)) (word w (record { utf8 = IsUtf8-from_is_utf8 w q.0; word = q.1 }))
 
 -- whether these are ASCII letters
 abbrev pub is_letter : ℕ → Bool

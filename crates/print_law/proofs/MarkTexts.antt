@@ -1,8 +1,9 @@
 -- The printed marks of a node give its marks' tokens, and they are within the limits.
 use Rattle.std.proofs.Common.{◌≡◌, ℕ, ◌+◌, Bool, true, false, ◌||◌, codes, List, [], ◌∷◌, ◌++◌, refl, sym, ap, ◌∙◌, true≢false}
+use Rattle.std.proofs.Math.Bool.{or-false}
 use Rattle.std.specs.List.{list_all, enumerate_from}
 use Rattle.std.specs.Str.{bytes_eq}
-use Rattle.std.proofs.lemmas.Bool.{and_parts}
+use Rattle.std.proofs.lemmas.Bool.{and_parts, or_parts}
 use Rattle.std.proofs.lemmas.List.Folds.{list_any-append}
 use Rattle.cfj_model.specs.Names.{is_short_identifier}
 use Rattle.cfj_model.specs.Marks.{spell_mark, spell_marks, roles_marks}
@@ -40,15 +41,7 @@ marks_read features colors h = marks_read_from colors 0 features h
 -- ---- the limits
 
 has_append : (names : List (List ℕ)) (f w : List ℕ) → has (names ++ f ∷ []) w ≡ (has names w || bytes_eq f w)
-has_append names f w = list_any-append (λ n. bytes_eq n w) names (f ∷ []) ∙ ap (λ b. has names w || b) (or_none (bytes_eq f w))
-  where
-    or_none : (b : Bool) → (b || false) ≡ b
-    or_none true = refl
-    or_none false = refl
-
-or_false : (a b : Bool) → (a || b) ≡ false → (a ≡ false) × (b ≡ false)
-or_false true b h = absurd (true≢false h)
-or_false false b h = (refl, h)
+has_append names f w = list_any-append (λ n. bytes_eq n w) names (f ∷ []) ∙ ap (λ b. has names w || b) (or-false (bytes_eq f w))
 
 or_from_false : (a b : Bool) → a ≡ false → b ≡ false → (a || b) ≡ false
 or_from_false true b h k = absurd (true≢false h)
@@ -66,11 +59,11 @@ abbrev AreAmong : List (List ℕ) → List (List ℕ) → Type 0
 AreAmong ms before = (w : List ℕ) → has before w ≡ false → has ms w ≡ false
 
 among_more : (ms before : List (List ℕ)) (f : List ℕ) → AreAmong ms before → AreAmong ms (before ++ f ∷ [])
-among_more ms before f a w h = a w (or_false (has before w) (bytes_eq f w) (sym (has_append before f w) ∙ h)).0
+among_more ms before f a w h = a w (or_parts (has before w) (bytes_eq f w) (sym (has_append before f w) ∙ h)).0
 
 among_both : (ms before : List (List ℕ)) (f : List ℕ) → AreAmong ms before → AreAmong (ms ++ f ∷ []) (before ++ f ∷ [])
 among_both ms before f a w h =
-    let o = or_false (has before w) (bytes_eq f w) (sym (has_append before f w) ∙ h) in
+    let o = or_parts (has before w) (bytes_eq f w) (sym (has_append before f w) ∙ h) in
     has_append ms f w ∙ or_from_false (has ms w) (bytes_eq f w) (a w o.0) o.1
 
 marks_within_from : (features before fs : List (List ℕ)) (colors n : ℕ) (t : Tally) (rest : List Role) → features ≡ before ++ fs → are_new before fs ≡ true → list_all is_short_identifier fs ≡ true

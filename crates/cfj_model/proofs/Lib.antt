@@ -1,6 +1,8 @@
+pub mod AsciiWords
 pub mod ExprCases
 pub mod Identifiers
 pub mod FeatureBits
 pub mod FormulaCases
 mod Reserved
 pub mod SetBits
+pub mod WordTokens

@@ -7,8 +7,9 @@ use Rattle.cfj_model.specs.Names.{is_identifier}
 use Rattle.cfj_model.specs.Lexemes.{Lexed, Found, AtEnd, NoToken, NoClose, next_lexeme}
 use Rattle.cfj_model.specs.Tokens.{Token, Id, End, Takes, token_seen, place_of, is_reserved_word}
 use Rattle.cfj_model.specs.ProductLines.{ProductLine}
-use Rattle.cfj_model.specs.Grammar.{Tree, spell, value}
-use Rattle.cfj_model.specs.TreeRoles.{roles}
+use Rattle.cfj_model.specs.declared.class.Class.{Class}
+use Rattle.cfj_model.specs.Grammar.{Tree, spell, value, ClassTree, spell_class, value_class}
+use Rattle.cfj_model.specs.TreeRoles.{roles, roles_class}
 use Rattle.cfj_model.specs.Roles.{Role, Tally, plain, nothing, tallied, broken_by, AreWithin, are_settled}
 
 -- A language: its trees, the tokens that a tree spells, their roles, the value that a tree stands for, and what counts as met
@@ -23,6 +24,17 @@ pub record Language (V : Type 0) : Type 1 where
 -- whole projects
 abbrev pub projects : Language ProductLine
 projects = record { Tree = Tree; spell = spell; roles = roles; value = value; met = nothing }
+
+-- single classes, whose nodes may be marked with these features
+abbrev pub single_classes : List (List ℕ) → Language Class
+single_classes features =
+    record {
+      Tree = ClassTree;
+      spell = spell_class;
+      roles = roles_class;
+      value = value_class features;
+      met = record nothing { features = features };
+    }
 
 -- The text is one of the language, within the limits, and stands for this value.
 pub record IsTextOf {V : Type 0} (l : Language V) (text : List ℕ) (v : V) : Type 0 where

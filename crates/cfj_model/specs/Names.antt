@@ -1,7 +1,7 @@
 -- Words, reserved words and names, by the Java Language Specification's lexical rules with Unicode's identifier characters.
 use Rattle.std.specs.Prelude.{ℕ, Bool, false, ◌&&◌, ◌||◌, ◌==◌, not, nat_le, List, [], ◌∷◌, length, codes}
 use Rattle.std.specs.List.{list_any, list_all}
-use Rattle.std.specs.Str.{chars, bytes_eq}
+use Rattle.std.specs.Str.{chars, is_utf8, bytes_eq}
 use Rattle.unicode_ident.specs.Ident.{is_xid_start, is_xid_continue}
 
 -- a character that may begin a word: XID_Start, `_` or `$`
@@ -28,9 +28,9 @@ is_among words text = list_any (λ word. bytes_eq word text) words
 unfoldable pub is_reserved : List ℕ → Bool
 is_reserved text = is_among reserved_words text
 
--- a word that isn't reserved
+-- a word in UTF-8 that isn't reserved
 unfoldable pub is_identifier : List ℕ → Bool
-is_identifier text = is_word (chars text) && not (is_reserved text)
+is_identifier text = is_utf8 text && is_word (chars text) && not (is_reserved text)
 
 -- the most bytes in a name
 abbrev pub most_name_bytes : ℕ

@@ -1,0 +1,156 @@
+-- Marks in declaration order stand for their colours, and a feature's name for its number.
+use Rattle.std.proofs.Common.{◌≡◌, ◌≢◌, ℕ, zero, suc, ◌+◌, ◌<◌, ◌≤◌, ◌^◌, ◌==◌, nat_le, Bool, true, false, not, ◌||◌, cond, if◌then◌else◌, List, [], ◌∷◌, ◌++◌, length, get_or, ◌⊎◌, inl, inr, Some, position, bit_or, refl, sym, ap, subst, ◌∙◌, append_assoc, length-append, arith, true≢false}
+use Rattle.std.specs.Int.{bit_at}
+use Rattle.std.specs.List.{list_any, position_from}
+use Rattle.std.specs.Str.{bytes_eq}
+use Rattle.std.proofs.lemmas.Bool.{and_parts, eqb-true, not-true}
+use Rattle.std.proofs.lemmas.Bool.Decides.{eqb_tells, leb_tells}
+use Rattle.std.proofs.lemmas.Iterator.Adapters.{position_from-zero}
+use Rattle.std.proofs.lemmas.List.{append-nil}
+use Rattle.std.proofs.lemmas.Nat.Bits.{bit_at-lt, bit_at-zero, bit_at_or, bit_at_above, bit_at-pow_same, bit_at-pow_other, same_from_bits}
+use Rattle.std.proofs.lemmas.Slice.Eq.{bytes_eq-Decides}
+use Rattle.cfj_model.specs.Selections.{has_bit}
+use Rattle.cfj_model.specs.Marks.{color_at, color_of, colored, colors_of}
+use Rattle.cfj_model.specs.ProductLines.{has, are_new, are_distinct}
+
+-- a text is equal to itself
+pub same_text : (w : List ℕ) → bytes_eq w w ≡ true
+same_text w = (bytes_eq-Decides w w).1 refl
+
+pub or_right : (a b : Bool) → b ≡ true → (a || b) ≡ true
+or_right true b h = refl
+or_right false b h = h
+
+-- ---- places
+
+at_seam : (p : List ℕ → Bool) (before : List (List ℕ)) (f : List ℕ) (fs : List (List ℕ)) (i : ℕ) → list_any p before ≡ false → p f ≡ true → position_from p i (before ++ f ∷ fs) ≡ Some (i + length before)
+at_seam p [] f fs i n h = rw h (ap Some (omega arith))
+at_seam p (b ∷ before) f fs i n h = go (p b) refl n (λ m. at_seam p before f fs (i + 1) m h)
+  where
+    go : (x : Bool) → p b ≡ x → (x || list_any p before) ≡ false → (list_any p before ≡ false → position_from p (i + 1) (before ++ f ∷ fs) ≡ Some (i + 1 + length before))
+        → cond (p b) (Some i) (position_from p (i + 1) (before ++ f ∷ fs)) ≡ Some (i + suc (length before))
+    go true e m ih = absurd (true≢false m)
+    go false e m ih = rw e (ih m ∙ ap Some (omega arith))
+
+-- a name that is new behind others stands at their number
+pub place_of_name : (before : List (List ℕ)) (f : List ℕ) (fs : List (List ℕ)) → has before f ≡ false → position (λ g. bytes_eq g f) (before ++ f ∷ fs) ≡ Some (length before)
+place_of_name before f fs n = position_from-zero (λ g. bytes_eq g f) (before ++ f ∷ fs) ∙ at_seam (λ g. bytes_eq g f) before f fs 0 n (same_text f) ∙ ap Some (omega arith)
+
+-- as a split of the features
+pub record Split (features before : List (List ℕ)) (f : List ℕ) (fs : List (List ℕ)) : Type 0 where
+  pub whole : features ≡ before ++ f ∷ fs
+  pub fresh : has before f ≡ false
+  pub others : are_new (before ++ f ∷ []) fs ≡ true
+
+pub split : (features before : List (List ℕ)) (f : List ℕ) (fs : List (List ℕ)) → features ≡ before ++ f ∷ fs → are_new before (f ∷ fs) ≡ true → Split features before f fs
+split features before f fs e d =
+    let p = and_parts (not (has before f)) (are_new (before ++ f ∷ []) fs) d in
+    record { whole = e; fresh = not-true (has before f) p.0; others = p.1 }
+
+pub split_place : (features before : List (List ℕ)) (f : List ℕ) (fs : List (List ℕ)) → Split features before f fs → position (λ g. bytes_eq g f) features ≡ Some (length before)
+split_place features before f fs s = ap (position (λ g. bytes_eq g f)) s.whole ∙ place_of_name before f fs s.fresh
+
+pub split_more : (features before : List (List ℕ)) (f : List ℕ) (fs : List (List ℕ)) → features ≡ before ++ f ∷ fs → features ≡ (before ++ f ∷ []) ++ fs
+split_more features before f fs e = e ∙ sym (append_assoc before (f ∷ []) fs)
+
+named_at : (features before fs : List (List ℕ)) (i : ℕ) → features ≡ before ++ fs → are_new before fs ≡ true → i < length fs → position (λ g. bytes_eq g (get_or fs i [])) features ≡ Some (length before + i)
+named_at features before [] i e d lt = absurd (omega arith)
+named_at features before (f ∷ fs) zero e d lt = split_place features before f fs (split features before f fs e d) ∙ ap Some (omega arith)
+named_at features before (f ∷ fs) (suc i) e d lt =
+    let s = split features before f fs e d in
+    let sum = length-append before (f ∷ []) in
+    named_at features (before ++ f ∷ []) fs i (split_more features before f fs e) s.others (omega arith) ∙ ap Some (omega (arith, sum))
+
+-- the name of a feature stands for its number
+pub named_again : (features : List (List ℕ)) (i : ℕ) → are_distinct features ≡ true → i < length features → position (λ g. bytes_eq g (get_or features i [])) features ≡ Some i
+named_again features i d lt = named_at features [] features i refl d lt ∙ ap Some (omega arith)
+
+-- a feature's name is one of the features
+pub has_named : (features : List (List ℕ)) (i : ℕ) → i < length features → has features (get_or features i []) ≡ true
+has_named [] i lt = absurd (omega arith)
+has_named (f ∷ fs) zero lt = rw (same_text f) refl
+has_named (f ∷ fs) (suc i) lt = or_right (bytes_eq f (get_or fs i [])) _ (has_named fs i (omega arith))
+
+-- ---- marks
+
+-- the marks of these colours, in declaration order, of the features from a number on
+abbrev pub marks_from : ℕ → ℕ → List (List ℕ) → List (List ℕ)
+marks_from colors n [] = []
+marks_from colors n (f ∷ fs) = if has_bit colors n then f ∷ marks_from colors (n + 1) fs else marks_from colors (n + 1) fs
+
+abbrev pub marks_of : List (List ℕ) → ℕ → List (List ℕ)
+marks_of features colors = marks_from colors 0 features
+
+-- the features below a number that are among the colours
+record IsBelow (n colors acc : ℕ) : Type 0 where
+  low : (g : ℕ) → g < n → bit_at acc g ≡ bit_at colors g
+  high : (g : ℕ) → n ≤ g → bit_at acc g ≡ 0
+
+same_or_below : (g n : ℕ) → g < n + 1 → (g < n) ⊎ (g ≡ n)
+same_or_below g n lt = go (leb_tells n g)
+  where
+    go : ((nat_le n g ≡ true) × (n ≤ g)) ⊎ ((nat_le n g ≡ false) × (g < n)) → (g < n) ⊎ (g ≡ n)
+    go (inl e) = let le = e.1 in inr (omega arith)
+    go (inr e) = inl e.1
+
+one_more : (n colors acc : ℕ) → IsBelow n colors acc → has_bit colors n ≡ true → IsBelow (n + 1) colors (bit_or acc (2 ^ n))
+one_more n colors acc b h = record {
+  low = λ g lt. go g (same_or_below g n lt);
+  high = λ g le. let o = bit_at_or acc (2 ^ n) g in let z = bit_at-pow_other n g (λ e. absurd (omega arith)) in let y = b.high g (omega arith) in omega (arith, o, z, y);
+}
+  where
+    go : (g : ℕ) → (g < n) ⊎ (g ≡ n) → bit_at (bit_or acc (2 ^ n)) g ≡ bit_at colors g
+    go g (inl lt) = let o = bit_at_or acc (2 ^ n) g in let z = bit_at-pow_other n g (λ e. absurd (omega arith)) in let y = b.low g lt in omega (arith, o, z, y)
+    go g (inr e) =
+        let o = bit_at_or acc (2 ^ n) n in let z = bit_at-pow_same n in let y = b.high n (omega arith) in let x = eqb-true (bit_at colors n) 1 h in
+        let k : bit_at (bit_or acc (2 ^ n)) n ≡ bit_at colors n = omega (arith, o, z, y, x) in
+        subst (λ m. bit_at (bit_or acc (2 ^ n)) m ≡ bit_at colors m) (sym e) k
+
+none_more : (n colors acc : ℕ) → IsBelow n colors acc → has_bit colors n ≡ false → IsBelow (n + 1) colors acc
+none_more n colors acc b h = record {
+  low = λ g lt. go g (same_or_below g n lt);
+  high = λ g le. b.high g (omega arith);
+}
+  where
+    no_bit : bit_at colors n ≡ 0
+    no_bit = by (eqb_tells (bit_at colors n) 1)
+      where
+        by : (((bit_at colors n == 1) ≡ true) × (bit_at colors n ≡ 1)) ⊎ (((bit_at colors n == 1) ≡ false) × (bit_at colors n ≢ 1)) → bit_at colors n ≡ 0
+        by (inl e) = absurd (true≢false (sym e.0 ∙ h))
+        by (inr e) = let l = bit_at-lt colors n in let d = e.1 in omega (arith, l, d)
+
+    go : (g : ℕ) → (g < n) ⊎ (g ≡ n) → bit_at acc g ≡ bit_at colors g
+    go g (inl lt) = b.low g lt
+    go g (inr e) = subst (λ m. bit_at acc m ≡ bit_at colors m) (sym e) (b.high n (omega arith) ∙ sym no_bit)
+
+colored_again : (features before fs : List (List ℕ)) (n colors acc : ℕ) → length before ≡ n → features ≡ before ++ fs → are_new before fs ≡ true → IsBelow n colors acc → colors < 2 ^ length features
+    → colored features acc (marks_from colors n fs) ≡ colors
+colored_again features before [] n colors acc l e d b small = same_from_bits acc colors (λ g. go g (leb_tells n g))
+  where
+    size : length features ≡ n
+    size = ap length (e ∙ append-nil before) ∙ l
+
+    go : (g : ℕ) → ((nat_le n g ≡ true) × (n ≤ g)) ⊎ ((nat_le n g ≡ false) × (g < n)) → bit_at acc g ≡ bit_at colors g
+    go g (inl h) = b.high g h.1 ∙ sym (bit_at_above colors (length features) g small (subst (λ m. m ≤ g) (sym size) h.1))
+    go g (inr h) = b.low g h.1
+colored_again features before (f ∷ fs) n colors acc l e d b small =
+    go (has_bit colors n) refl
+    (λ c below. colored_again features (before ++ f ∷ []) fs (n + 1) colors c longer (split_more features before f fs e) s.others below small)
+  where
+    s : Split features before f fs
+    s = split features before f fs e d
+
+    longer : length (before ++ f ∷ []) ≡ n + 1
+    longer = let sum = length-append before (f ∷ []) in omega (arith, sum, l)
+
+    color : color_of features f ≡ 2 ^ n
+    color = ap color_at (split_place features before f fs s) ∙ ap (λ m. 2 ^ m) l
+
+    go : (x : Bool) → has_bit colors n ≡ x → ((c : ℕ) → IsBelow (n + 1) colors c → colored features c (marks_from colors (n + 1) fs) ≡ colors)
+        → colored features acc (if has_bit colors n then f ∷ marks_from colors (n + 1) fs else marks_from colors (n + 1) fs) ≡ colors
+    go true h ih = rw h (ap (λ c. colored features (bit_or acc c) (marks_from colors (n + 1) fs)) color ∙ ih (bit_or acc (2 ^ n)) (one_more n colors acc b h))
+    go false h ih = rw h (ih acc (none_more n colors acc b h))
+
+-- the marks of colours stand for them
+pub colors_again : (features : List (List ℕ)) (colors : ℕ) → are_distinct features ≡ true → colors < 2 ^ length features → colors_of features (marks_of features colors) ≡ colors
+colors_again features colors d small = colored_again features [] features 0 colors 0 refl refl d (record { low = λ g lt. absurd (omega arith); high = λ g le. bit_at-zero g }) small

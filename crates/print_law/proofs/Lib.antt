@@ -1,0 +1,14 @@
+pub mod Lexing
+pub mod Features
+pub mod FormulaTrees
+pub mod Limits
+pub mod FormulaRoles
+pub mod ExprTrees
+pub mod MarkTexts
+pub mod ExprTexts
+pub mod ExprRoles
+pub mod ClassTrees
+pub mod ClassTexts
+pub mod ClassRoles
+pub mod Law
+pub mod Numbering

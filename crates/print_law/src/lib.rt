@@ -1,0 +1,41 @@
+//! The law that what is printed reads back.
+//!
+//! Rests on `cfj_model`, whose `specs/Print.antt` says what is printed and whose `specs/Faults.antt` says what a text of the
+//! grammar is and what it stands for. The law needs no code: each of these functions has a contract that states it, and a body
+//! that only asks what a project's type keeps.
+#![tactic(auto)]
+
+ghost use Rattle.std.specs.Prelude.{IfSome, IsTrue, slice_get};
+ghost use Rattle.cfj_model.specs.Faults.{IsTextOf, projects, single_classes};
+ghost use Rattle.cfj_model.specs.Numbered.{IsNumbered, is_numbered_class};
+ghost use Rattle.cfj_model.specs.Print.{class_text, printed};
+
+use cfj_model::{Class, FeatureModel, Project};
+
+/// The print of a numbered project is a text of the grammar that stands for that project.
+pub fn print_reads_back(project: &Project)
+    requires numbered { IsNumbered project.now }
+    ensures { IsTextOf projects (printed project.now) project.now }
+{
+    let _kept = project.model();
+}
+
+/// The text of a numbered class of a project is a text of the grammar of classes that stands for that class.
+pub fn class_reads_back(project: &Project, place: usize)
+    requires numbered { IfSome (slice_get project.now.classes place) (λ k. IsTrue (is_numbered_class k)) }
+    ensures { IfSome (slice_get project.now.classes place) (λ k. IsTextOf (single_classes project.now.model.features) (class_text project.now.model.features k) k) }
+{
+    let _kept = project.model();
+}
+
+/// The project that a text of the grammar stands for is numbered, so that its print reads back.
+pub fn read_is_numbered(project: &Project, text: &str)
+    requires read { IsTextOf projects text.now project.now }
+    ensures { IsNumbered project.now }
+{}
+
+/// And so is the class that a text stands for among declared features.
+pub fn read_class_is_numbered(model: &FeatureModel, class: &Class, text: &str)
+    requires read { IsTextOf (single_classes model.now.features) text.now class.now }
+    ensures { IsTrue (is_numbered_class class.now) }
+{}

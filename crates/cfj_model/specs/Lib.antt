@@ -12,6 +12,7 @@ pub mod Logs
 pub mod LookUps
 pub mod Marks
 pub mod Names
+pub mod Paths
 pub mod Print
 pub mod ProductLines
 pub mod Projection

@@ -2,6 +2,6 @@ pub mod ExprCases
 pub mod Identifiers
 pub mod FeatureBits
 pub mod FormulaCases
-pub mod Paths
+mod Paths
 mod Reserved
 pub mod SetBits

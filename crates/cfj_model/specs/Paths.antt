@@ -1,6 +1,6 @@
--- How a path is read: a guess that cuts the text at its marks. It counts only where its site prints the text.
-use Rattle.std.specs.Prelude.{ℕ, ◌^◌, ◌&&◌, ◌==◌, nat_lt, Option, Some, None, option_map, option_and_then, List, [], ◌∷◌, length, codes, if◌then◌else◌}
-use Rattle.std.specs.Str.{all_ascii_digits, bytes_eq}
+-- How a path is read: a candidate that cuts the text at its marks. It counts only where its site prints the text.
+use Rattle.std.specs.Prelude.{◌≡◌, ℕ, ◌^◌, ◌&&◌, ◌==◌, nat_lt, Option, Some, None, option_map, option_and_then, List, [], ◌∷◌, length, codes, if◌then◌else◌}
+use Rattle.std.specs.Str.{IsUtf8, all_ascii_digits, bytes_eq}
 use Rattle.std.specs.Str.Parse.{digits_value}
 use Rattle.cfj_model.specs.Names.{is_short_identifier}
 use Rattle.cfj_model.specs.declared.site.Site.{Site}
@@ -10,6 +10,12 @@ use Rattle.cfj_model.specs.declared.site.Site.TheVariants as site
 abbrev pub cut : ℕ → List ℕ → Option (List ℕ × List ℕ)
 cut at [] = None
 cut at (b ∷ bs) = if b == at then Some ([], bs) else option_map (λ parts. (b ∷ parts.0, parts.1)) (cut at bs)
+
+-- these texts stand before and behind the first of this byte
+pub record IsCut (at : ℕ) (text front back : List ℕ) : Type 0 where
+  pub cuts : cut at text ≡ Some (front, back)
+  pub front_utf8 : IsUtf8 front
+  pub back_utf8 : IsUtf8 back
 
 -- the text as a name of a path
 unfoldable pub name_of : List ℕ → Option (List ℕ)
@@ -28,6 +34,11 @@ numbered text (Some parts) = option_map (λ alt. (parts.0, alt)) (number_of part
 -- a member's name and its alt
 abbrev pub member_of : List ℕ → Option (List ℕ × ℕ)
 member_of text = numbered text (cut 126 text)
+
+-- the text is this name with this alt
+pub record IsMember (text name : List ℕ) (alt : ℕ) : Type 0 where
+  pub reads : member_of text ≡ Some (name, alt)
+  pub utf8 : IsUtf8 name
 
 -- the field of this member
 abbrev pub field_of : List ℕ → Option (List ℕ × ℕ) → Option Site
@@ -73,5 +84,5 @@ whole_of text None = if bytes_eq text (codes "*") then Some site.Model else opti
 whole_of text (Some parts) = option_and_then (λ class. part_of class parts.1 (cut 40 parts.1)) (name_of parts.0)
 
 -- the only site that can have this text
-unfoldable pub guess : List ℕ → Option Site
-guess text = whole_of text (cut 46 text)
+abbrev pub candidate : List ℕ → Option Site
+candidate text = whole_of text (cut 46 text)

@@ -1,4 +1,5 @@
 mod bodies;
+mod paths;
 mod variants;
 
 use cide_io::{HostRoom, MemRoom, MemSink, Room, StdErrSink, StdOutSink, put_all, read_all};

@@ -13,6 +13,7 @@ pub mod LookUps
 pub mod Marks
 pub mod Names
 pub mod Numbered
+pub mod Paths
 pub mod Print
 pub mod ProductLines
 pub mod Projection

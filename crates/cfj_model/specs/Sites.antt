@@ -4,6 +4,8 @@ use Rattle.std.specs.Fmt.{decimal}
 use Rattle.cfj_model.specs.Names.{is_short_identifier}
 use Rattle.cfj_model.specs.declared.site.Site.{Site}
 use Rattle.cfj_model.specs.declared.site.Site.TheVariants as site
+use Rattle.cfj_model.specs.declared.site_ref.SiteRef.{SiteRef}
+use Rattle.cfj_model.specs.declared.site_ref.SiteRef.TheVariants as site_ref
 
 -- `~` and its alt stand behind a member that isn't the first of its name
 abbrev pub alt_text : ℕ → List ℕ
@@ -25,6 +27,19 @@ site_text (site.Assign c i) = c ++ (codes ".new.this(" ++ (decimal i ++ codes ")
 site_text (site.Method c m alt) = c ++ (codes "." ++ member_text m alt (codes "()"))
 site_text (site.Param c m alt i) = c ++ (codes "." ++ member_text m alt (codes "(" ++ (decimal i ++ codes ")")))
 site_text (site.Node c m alt n) = c ++ (codes "." ++ member_text m alt (codes "()#" ++ decimal n))
+
+-- the site that a reference names
+abbrev pub site_ref_seen : SiteRef → Site
+site_ref_seen site_ref.Model = site.Model
+site_ref_seen (site_ref.Class c) = site.Class c.now
+site_ref_seen (site_ref.Field c f alt) = site.Field c.now f.now alt
+site_ref_seen (site_ref.Ctor c) = site.Ctor c.now
+site_ref_seen (site_ref.CtorParam c i) = site.CtorParam c.now i
+site_ref_seen (site_ref.SuperArg c i) = site.SuperArg c.now i
+site_ref_seen (site_ref.Assign c i) = site.Assign c.now i
+site_ref_seen (site_ref.Method c m alt) = site.Method c.now m.now alt
+site_ref_seen (site_ref.Param c m alt i) = site.Param c.now m.now alt i
+site_ref_seen (site_ref.Node c m alt n) = site.Node c.now m.now alt n
 
 -- a name that may stand in a path: an identifier of at most 255 bytes
 abbrev pub IsPathName : List ℕ → Type 0

@@ -1,7 +1,9 @@
-ghost use Rattle.std.specs.Prelude.{Some};
+ghost use Rattle.std.specs.Prelude.{◌≡◌, Some, IfOk};
 ghost use Rattle.cfj_model.specs.Sites as spec;
 
 use crate::name::Name;
+use crate::site_ref::SiteRef;
+use std::alloc::{AllocError, Global};
 use std::fmt;
 
 /// A node of a project, by names and numbers that no edit elsewhere changes.
@@ -69,19 +71,49 @@ pub enum Rule {
     E8,
 }
 
-/// What stands behind a member's name: nothing for the first of its name, else `~` and its alt.
-#[derive(Clone, Copy)]
-struct Alt(u16);
-
-impl fmt::Display for Alt {
-    ghost output = { λ alt. Some (spec.alt_text alt.0) };
-
-    fn fmt<W: fmt::Write>(&self, f: &mut fmt::Formatter<W>) -> fmt::Result {
-        let Alt(alt) = *self;
-        if alt == 0 {
-            return Ok(());
+impl Site {
+    /// The same site over the names that stand here.
+    pub fn as_ref(&self) -> SiteRef<'_>
+        ensures { spec.site_ref_seen result ≡ self.now }
+    {
+        match self {
+            Site::Model => SiteRef::Model,
+            Site::Class(class) => SiteRef::Class(class),
+            Site::Field(class, field, alt) => SiteRef::Field(class, field, *alt),
+            Site::Ctor(class) => SiteRef::Ctor(class),
+            Site::CtorParam(class, slot) => SiteRef::CtorParam(class, *slot),
+            Site::SuperArg(class, slot) => SiteRef::SuperArg(class, *slot),
+            Site::Assign(class, slot) => SiteRef::Assign(class, *slot),
+            Site::Method(class, method, alt) => SiteRef::Method(class, method, *alt),
+            Site::Param(class, method, alt, slot) => SiteRef::Param(class, method, *alt, *slot),
+            Site::Node(class, method, alt, slot) => SiteRef::Node(class, method, *alt, *slot),
         }
-        write!(f, "~{alt}")
+    }
+
+    /// The same site, in memory of its own.
+    pub fn copy(&self, alloc: Global) -> Result<Site, AllocError>
+        ensures { IfOk result (λ site. site ≡ self.now) }
+    {
+        Ok(match self {
+            Site::Model => Site::Model,
+            Site::Class(class) => Site::Class(class.copy(alloc)?),
+            Site::Field(class, field, alt) => {
+                Site::Field(class.copy(alloc)?, field.copy(alloc)?, *alt)
+            }
+            Site::Ctor(class) => Site::Ctor(class.copy(alloc)?),
+            Site::CtorParam(class, slot) => Site::CtorParam(class.copy(alloc)?, *slot),
+            Site::SuperArg(class, slot) => Site::SuperArg(class.copy(alloc)?, *slot),
+            Site::Assign(class, slot) => Site::Assign(class.copy(alloc)?, *slot),
+            Site::Method(class, method, alt) => {
+                Site::Method(class.copy(alloc)?, method.copy(alloc)?, *alt)
+            }
+            Site::Param(class, method, alt, slot) => {
+                Site::Param(class.copy(alloc)?, method.copy(alloc)?, *alt, *slot)
+            }
+            Site::Node(class, method, alt, slot) => {
+                Site::Node(class.copy(alloc)?, method.copy(alloc)?, *alt, *slot)
+            }
+        })
     }
 }
 
@@ -89,31 +121,6 @@ impl fmt::Display for Site {
     ghost output = { λ site. Some (spec.site_text site) };
 
     fn fmt<W: fmt::Write>(&self, f: &mut fmt::Formatter<W>) -> fmt::Result {
-        match self {
-            Site::Model => write!(f, "*"),
-            Site::Class(class) => write!(f, "{}", class.text()),
-            Site::Field(class, field, alt) => {
-                write!(f, "{}.{}{}", class.text(), field.text(), Alt(*alt))
-            }
-            Site::Ctor(class) => write!(f, "{}.new", class.text()),
-            Site::CtorParam(class, slot) => write!(f, "{}.new({slot})", class.text()),
-            Site::SuperArg(class, slot) => write!(f, "{}.new.super({slot})", class.text()),
-            Site::Assign(class, slot) => write!(f, "{}.new.this({slot})", class.text()),
-            Site::Method(class, method, alt) => {
-                write!(f, "{}.{}{}()", class.text(), method.text(), Alt(*alt))
-            }
-            Site::Param(class, method, alt, slot) => {
-                write!(f, "{}.{}{}({slot})", class.text(), method.text(), Alt(*alt))
-            }
-            Site::Node(class, method, alt, slot) => {
-                write!(
-                    f,
-                    "{}.{}{}()#{slot}",
-                    class.text(),
-                    method.text(),
-                    Alt(*alt)
-                )
-            }
-        }
+        write!(f, "{}", self.as_ref())
     }
 }

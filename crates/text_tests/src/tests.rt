@@ -1,4 +1,5 @@
 mod constraints;
+mod paths;
 mod prints;
 mod variants;
 

@@ -1,6 +1,6 @@
 -- A path's text gives back its site.
 use Rattle.std.proofs.Common.{Bool, Bor, ◌&&◌, nat_lt, ltb-true, IfNone, MatchOption, Result, Ok, Err, ◌≡◌, ◌≢◌, ℕ, ◌+◌, ◌<◌, ◌^◌, ◌==◌, suc, zero, true, false, ◌||◌, List, [], ◌∷◌, ◌++◌, length, get_or, drop, Option, Some, None, option_map, refl, sym, ap, ◌∙◌, subst, arith, rules, codes, length-append, append_assoc, append-nil, lit<, zero-lt-suc, eqb, ne_eqb, eq-eqb, lt-ltb, true≢false, decimal}
-use Rattle.std.specs.Str.{chars, IsUtf8, all_ascii_digits, NonePass, bytes_eq}
+use Rattle.std.specs.Str.{chars, IsUtf8, all_ascii_digits, NonePass, bytes_eq, is_utf8}
 use Rattle.std.specs.Str.Parse.{ParsesUnsigned, digits_value}
 use Rattle.std.specs.List.{list_all}
 use Rattle.std.specs.Result.{result_ok}
@@ -142,7 +142,7 @@ cut_is mark text (Some parts) u ascii h =
 name_lacks : (at : ℕ) (name : List ℕ) → IsMark at → IsPathName name → IsUtf8 name → Lacks at name
 unfolding is_identifier
 name_lacks at name mark named u i l =
-    let word = (and_parts _ _ (and_parts _ _ named).0).0 in
+    let word = (and_parts _ _ (and_parts _ _ (and_parts _ _ named).0).0).1 in
     NoCharPasses-char at name i (chars name, encodes-chars name u, word_without at (chars name) mark word) mark.ascii l
 
 own : IsNumeralModel (λ ds. all_ascii_digits ds ≡ true) (digits_value 10)
@@ -170,7 +170,7 @@ differ xs ys other = search (rules, bytes_eq-Decides, other)
 -- `this` is no identifier
 no_this : is_identifier (codes "this") ≢ true
 unfolding is_identifier is_reserved
-no_this e = true≢false (sym (and_parts (is_word (chars (codes "this"))) false e).1)
+no_this e = true≢false (sym (and_parts (is_utf8 (codes "this") && is_word (chars (codes "this"))) false e).1)
 
 or_false : (b : Bool) → (b || false) ≡ b
 or_false true = refl
@@ -236,7 +236,7 @@ not_new : (name : List ℕ) → IsPathName name → name ≢ codes "new"
 unfolding is_identifier is_reserved
 not_new name named e =
     let identifier = (and_parts _ _ (subst IsPathName e named)).0 in
-    true≢false (sym (and_parts (is_word (chars (codes "new"))) false identifier).1)
+    true≢false (sym (and_parts (is_utf8 (codes "new") && is_word (chars (codes "new"))) false identifier).1)
 
 -- a name's text behind which a dot cuts
 dotted : (class part : List ℕ) → IsPathName class → IsUtf8 (class ++ (46 ∷ part)) → candidate (class ++ (46 ∷ part)) ≡ part_of class part (cut 40 part)

@@ -1,3 +1,4 @@
+pub mod ExprCases
 pub mod Identifiers
 pub mod FeatureBits
 pub mod FormulaCases

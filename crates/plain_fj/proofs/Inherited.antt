@@ -140,11 +140,11 @@ field_known p sound c d h =
     sound.field_types r.0 (declared_has p r.0.name r.0 w.0) d r.2
 
 -- The nearest field is one of all.
-pub field_typed : (p : Table) (c f : List ℕ) (d : Field) → field_of p c f ≡ Some d → TypesField (all_fields p c) f d.of
-field_typed p c f d e =
+pub nearest_has : (p : Table) (c f : List ℕ) (d : Field) → field_of p c f ≡ Some d → Has (all_fields p c) d × (d.name ≡ f)
+nearest_has p c f d e =
     let r = first_has (field_called f) (chain p c) d e in
     let h = find_has (λ (y : Field). bytes_eq y.name f) r.0.fields d r.2 in
-    (d, has_fields_of (chain p c) r.0 d r.1 h.0, name_is d.name f h.1, refl)
+    (has_fields_of (chain p c) r.0 d r.1 h.0, name_is d.name f h.1)
 
 field_walked : (p : Table) → IsSound p → (f : List ℕ) (d : Field) → d.name ≡ f → (c : List ℕ) (ks : List Class) → Walk p c ks → Has (fields_of ks) d
     → first_some (field_called f) ks ≡ Some d

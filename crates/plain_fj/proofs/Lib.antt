@@ -1,3 +1,5 @@
 pub mod Members
 pub mod Chains
 pub mod Inherited
+pub mod Fitting
+pub mod Typed

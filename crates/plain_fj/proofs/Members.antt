@@ -1,5 +1,5 @@
 -- Items of lists, and tests over them.
-use Rattle.std.proofs.Common.{◌≡◌, ℕ, zero, suc, ◌⊎◌, inl, inr, Bool, true, false, not, ◌&&◌, ◌||◌, cond, List, [], ◌∷◌, ◌++◌, map, Option, None, Some, slice_get, refl, sym, ◌∙◌, ap, subst}
+use Rattle.std.proofs.Common.{◌≡◌, ℕ, zero, suc, ◌⊎◌, inl, inr, Bool, true, false, not, ◌&&◌, ◌||◌, cond, List, [], ◌∷◌, ◌++◌, map, Option, None, Some, option_map, slice_get, refl, sym, ◌∙◌, ap, subst}
 use Rattle.std.specs.List.{list_all, list_any, find, flat_map}
 use Rattle.std.specs.Str.{bytes_eq}
 use Rattle.std.proofs.lemmas.Bool.{and_parts, and_from, or_cases, or_parts, or_left, or_right, not-true}
@@ -158,3 +158,8 @@ find_new {A = A} key before (y ∷ ys) e x h n s = go (λ h. find_new key (befor
 pub find_distinct : {A : Type 0} (key : A → List ℕ) (xs : List A) → are_distinct (map key xs) ≡ true → (x : A) → Has xs x → (n : List ℕ) → key x ≡ n
     → find (λ y. bytes_eq (key y) n) xs ≡ Some x
 find_distinct key xs e x h n s = find_new key [] xs e x h n s
+
+-- what a mapped option holds comes from what the option holds
+pub mapped : {A B : Type 0} (f : A → B) (o : Option A) (y : B) → option_map f o ≡ Some y → (x : A) × (o ≡ Some x) × (f x ≡ y)
+mapped f None y e = absurd (unlike e)
+mapped f (Some x) y e = (x, refl, (cc e))

@@ -3,3 +3,4 @@ pub mod Chains
 pub mod Inherited
 pub mod Fitting
 pub mod Typed
+pub mod Clear

@@ -27,17 +27,17 @@ pub record HasKnownTypes (p : Table) (g : Environment) : Type 0 where
 
 -- ---- the type of each kind of expression, by the types of its parts
 
-abbrev call_type : {A : Type 0} → Table → List A → Option (List ℕ) → Option (List (List ℕ)) → List ℕ → Option (List ℕ)
+abbrev pub call_type : {A : Type 0} → Table → List A → Option (List ℕ) → Option (List (List ℕ)) → List ℕ → Option (List ℕ)
 call_type p args on ts m = result_type (fits (fit_of p args ts (option_map (λ (d : Method). param_types d.params) (called p on ts m)))) (called p on ts m)
 
 -- the types of the fields, where the class is known
-abbrev types_where : Bool → Table → List ℕ → Option (List (List ℕ))
+abbrev pub types_where : Bool → Table → List ℕ → Option (List (List ℕ))
 types_where known p c = if known then Some (map (λ (f : Field). f.of) (all_fields p c)) else None
 
-abbrev new_type : {A : Type 0} → Bool → Table → List A → Option (List (List ℕ)) → List ℕ → Option (List ℕ)
+abbrev pub new_type : {A : Type 0} → Bool → Table → List A → Option (List (List ℕ)) → List ℕ → Option (List ℕ)
 new_type known p args ts c = type_if (is_some ts && known && fits (fit_of p args ts (types_where known p c))) c
 
-abbrev cast_type : Table → Option (List ℕ) → List ℕ → Option (List ℕ)
+abbrev pub cast_type : Table → Option (List ℕ) → List ℕ → Option (List ℕ)
 cast_type p on c = type_if (is_some on && is_known p c && not (is_unrelated p on c)) c
 
 module _ (p : Table) (g : Environment) where
@@ -53,19 +53,19 @@ module _ (p : Table) (g : Environment) where
   abbrev pub arg_types : List Arg → Option (List (List ℕ))
   arg_types args = types_of (map (λ (a : JudgedExpr). a.type) (judged_args args))
 
-  type_var : (slot : ℕ) (x : List ℕ) → type_of (e.Var slot x) ≡ variable_type g x
+  pub type_var : (slot : ℕ) (x : List ℕ) → type_of (e.Var slot x) ≡ variable_type g x
   type_var slot x = ap (λ (j : JudgedExpr). j.type) (fold_var JudgedExpr JudgedExpr (judged_step p g) judged_arg slot x)
 
-  type_get : (slot : ℕ) (on : Expr) (f : List ℕ) → type_of (e.Get slot on f) ≡ accessed p (type_of on) f
+  pub type_get : (slot : ℕ) (on : Expr) (f : List ℕ) → type_of (e.Get slot on f) ≡ accessed p (type_of on) f
   type_get slot on f = ap (λ (j : JudgedExpr). j.type) (fold_get JudgedExpr JudgedExpr (judged_step p g) judged_arg slot on f)
 
-  type_call : (slot : ℕ) (on : Expr) (m : List ℕ) (args : List Arg) → type_of (e.Call slot on m args) ≡ call_type p (judged_args args) (type_of on) (arg_types args) m
+  pub type_call : (slot : ℕ) (on : Expr) (m : List ℕ) (args : List Arg) → type_of (e.Call slot on m args) ≡ call_type p (judged_args args) (type_of on) (arg_types args) m
   type_call slot on m args = ap (λ (j : JudgedExpr). j.type) (fold_call JudgedExpr JudgedExpr (judged_step p g) judged_arg slot on m args)
 
-  type_new : (slot : ℕ) (c : List ℕ) (args : List Arg) → type_of (e.New slot c args) ≡ new_type (is_known p c) p (judged_args args) (arg_types args) c
+  pub type_new : (slot : ℕ) (c : List ℕ) (args : List Arg) → type_of (e.New slot c args) ≡ new_type (is_known p c) p (judged_args args) (arg_types args) c
   type_new slot c args = ap (λ (j : JudgedExpr). j.type) (fold_new JudgedExpr JudgedExpr (judged_step p g) judged_arg slot c args)
 
-  type_cast : (slot : ℕ) (c : List ℕ) (on : Expr) → type_of (e.Cast slot c on) ≡ cast_type p (type_of on) c
+  pub type_cast : (slot : ℕ) (c : List ℕ) (on : Expr) → type_of (e.Cast slot c on) ≡ cast_type p (type_of on) c
   type_cast slot c on = ap (λ (j : JudgedExpr). j.type) (fold_cast JudgedExpr JudgedExpr (judged_step p g) judged_arg slot c on)
 
   -- ---- from the rules

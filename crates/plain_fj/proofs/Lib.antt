@@ -4,3 +4,4 @@ pub mod Inherited
 pub mod Fitting
 pub mod Typed
 pub mod Clear
+pub mod Quiet

@@ -163,3 +163,8 @@ find_distinct key xs e x h n s = find_new key [] xs e x h n s
 pub mapped : {A B : Type 0} (f : A → B) (o : Option A) (y : B) → option_map f o ≡ Some y → (x : A) × (o ≡ Some x) × (f x ≡ y)
 mapped f None y e = absurd (unlike e)
 mapped f (Some x) y e = (x, refl, (cc e))
+
+-- tests that agree at each item
+pub all_same : {A : Type 0} (f g : A → Bool) → ((x : A) → f x ≡ g x) → (xs : List A) → list_all f xs ≡ list_all g xs
+all_same f g same [] = refl
+all_same f g same (x ∷ xs) = ap (λ b. b && list_all f xs) (same x) ∙ ap (λ b. g x && b) (all_same f g same xs)

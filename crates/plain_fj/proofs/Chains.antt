@@ -273,3 +273,7 @@ chain_of_none p c acyclic q = walk_same p c (chain p c) [] (chain_walks p c acyc
 
 pub chain_of_class : (p : Table) (c : List ℕ) (k : Class) → IsAcyclic p → declared p c ≡ Some k → chain p c ≡ k ∷ chain p k.parent
 chain_of_class p c k acyclic q = walk_same p c (chain p c) (k ∷ chain p k.parent) (chain_walks p c acyclic) (go_on c k (chain p k.parent) q (chain_walks p k.parent acyclic))
+
+-- what is above a name and declared is in the name's chain
+pub above_in_chain : (p : Table) (c n : List ℕ) (d : Class) → IsSubtype p c n → declared p n ≡ Some d → Has (chain p c) d
+above_in_chain p c n d s q = chain_closed (length p) p c n d (omega arith) (above_on p c n s c (inl refl)) q

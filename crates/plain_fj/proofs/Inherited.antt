@@ -1,16 +1,16 @@
 -- Fields and method types by rules are those of the chain, where no class extends itself.
-use Rattle.std.proofs.Common.{◌≡◌, ℕ, ◌⊎◌, inl, inr, Bool, true, false, ◌||◌, cond, List, [], ◌∷◌, ◌++◌, map, Option, None, Some, is_some, refl, sym, ◌∙◌, ap, ap₂, subst}
+use Rattle.std.proofs.Common.{◌≡◌, ℕ, ◌⊎◌, inl, inr, Bool, true, false, not, ◌||◌, cond, List, [], ◌∷◌, ◌++◌, map, Option, None, Some, is_some, refl, sym, ◌∙◌, ap, ap₂, subst}
 use Rattle.std.specs.List.{find}
 use Rattle.std.specs.Str.{bytes_eq}
 use Rattle.std.proofs.lemmas.Bool.{or_cases}
 use Rattle.cfj_model.specs.ProductLines.{object, are_distinct}
 use Rattle.cfj_model.specs.UnitClauses.{Has}
-use Rattle.cfj_model.specs.LookUps.{Table, declared, is_known, chain, first_some, fields_of, all_fields, field_called, field_of, method_called, method_of}
+use Rattle.cfj_model.specs.LookUps.{Table, is_called, without, ancestors, declared, is_known, chain, first_some, fields_of, all_fields, field_called, field_of, method_called, method_of}
 use Rattle.cfj_model.specs.Typing.{Extends, IsSubtype, s_refl, s_extends, s_trans, HasFields, f_object, f_class, HasMethodType, mt_class, mt_super, param_types, TypesField}
 use Rattle.cfj_model.specs.declared.class.Class.{Class}
 use Rattle.cfj_model.specs.declared.class.Field.{Field}
 use Rattle.cfj_model.specs.declared.class.Method.{Method}
-use Rattle.plain_fj.proofs.Members.{unlike, not_true, name_is, is_name, find_has, none_find, has_none, has_cases, has_rest, has_left, has_right, has_either, find_distinct, differs_name}
+use Rattle.plain_fj.proofs.Members.{unlike, not_true, name_is, is_name, find_has, none_find, has_none, has_cases, has_rest, has_left, has_right, has_either, find_distinct, differs_name, filter_all}
 use Rattle.plain_fj.proofs.Chains.{IsAcyclic, Walk, stop, go_on, chain_walks, chain_of_none, chain_of_class, declared_name, declared_has}
 
 -- What a class table has, both where it is well typed and where no rule breaks.
@@ -201,3 +201,13 @@ result_known p sound m c d e =
     let r = first_has (method_called m) (chain p c) d e in
     let w = walk_has p c (chain p c) (chain_walks p c sound.acyclic) r.0 r.1 in
     sound.results r.0 (declared_has p r.0.name r.0 w.0) d (find_has (λ (y : Method). bytes_eq y.name m) r.0.methods d r.2).0
+
+-- the ancestors of a class are the chain of its superclass
+pub ancestors_are : (p : Table) → IsAcyclic p → (k : Class) → declared p k.name ≡ Some k → ancestors p k.name ≡ chain p k.parent
+ancestors_are p acyclic k q =
+    ap (without k.name) (chain_of_class p k.name k acyclic q)
+    ∙ ap (λ b. cond (not b) (k ∷ without k.name (chain p k.parent)) (without k.name (chain p k.parent))) (is_name k.name k.name refl)
+    ∙ filter_all (λ a. not (is_called k.name a)) (chain p k.parent) other
+  where
+    other : (a : Class) → Has (chain p k.parent) a → not (is_called k.name a) ≡ true
+    other a h = ap not (differs_name a.name k.name (λ s. walk_apart p k.name k (chain p k.parent) acyclic q (chain_walks p k.parent acyclic) a h (sym s)))

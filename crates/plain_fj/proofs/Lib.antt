@@ -5,3 +5,5 @@ pub mod Fitting
 pub mod Typed
 pub mod Clear
 pub mod Quiet
+pub mod Uses
+pub mod Law

@@ -1,6 +1,6 @@
 -- Items of lists, and tests over them.
 use Rattle.std.proofs.Common.{◌≡◌, ℕ, zero, suc, ◌⊎◌, inl, inr, Bool, true, false, not, ◌&&◌, ◌||◌, cond, List, [], ◌∷◌, ◌++◌, map, Option, None, Some, option_map, slice_get, refl, sym, ◌∙◌, ap, subst}
-use Rattle.std.specs.List.{list_all, list_any, find, flat_map}
+use Rattle.std.specs.List.{list_all, list_any, find, filter, flat_map}
 use Rattle.std.specs.Str.{bytes_eq}
 use Rattle.std.proofs.lemmas.Bool.{and_parts, and_from, or_cases, or_parts, or_left, or_right, not-true}
 use Rattle.std.proofs.lemmas.Slice.Eq.{bytes_eq-Decides}
@@ -168,3 +168,41 @@ mapped f (Some x) y e = (x, refl, (cc e))
 pub all_same : {A : Type 0} (f g : A → Bool) → ((x : A) → f x ≡ g x) → (xs : List A) → list_all f xs ≡ list_all g xs
 all_same f g same [] = refl
 all_same f g same (x ∷ xs) = ap (λ b. b && list_all f xs) (same x) ∙ ap (λ b. g x && b) (all_same f g same xs)
+
+pub none_has : {A : Type 0} (f : A → Bool) (xs : List A) → list_any f xs ≡ false → (x : A) → Has xs x → f x ≡ false
+none_has f xs e x h = go (f x) refl
+  where
+    go : (b : Bool) → f x ≡ b → b ≡ false
+    go true q = absurd (not_true (sym (has_any f xs x h q) ∙ e))
+    go false q = refl
+
+pub has_no : {A : Type 0} (f : A → Bool) (xs : List A) → ((x : A) → Has xs x → f x ≡ false) → list_any f xs ≡ false
+has_no f [] each = refl
+has_no f (y ∷ xs) each = ap (λ b. b || list_any f xs) (each y (0, refl)) ∙ has_no f xs (λ x h. each x (has_rest y xs x h))
+
+pub has_filter : {A : Type 0} (f : A → Bool) (xs : List A) (x : A) → Has xs x → f x ≡ true → Has (filter f xs) x
+has_filter f [] x h t = absurd (has_none x h)
+has_filter {A = A} f (y ∷ xs) x h t = go (has_filter f xs x) (f y) refl (has_cases y xs x h)
+  where
+    go : (Has xs x → f x ≡ true → Has (filter f xs) x) → (b : Bool) → f y ≡ b → (y ≡ x) ⊎ Has xs x → Has (cond b (y ∷ filter f xs) (filter f xs)) x
+    go ih true q (inl s) = (0, ap Some s)
+    go ih true q (inr h) = has_rest y (filter f xs) x (ih h t)
+    go ih false q (inl s) = absurd (not_true (sym t ∙ ap f (sym s) ∙ q))
+    go ih false q (inr h) = ih h t
+
+pub filter_has : {A : Type 0} (f : A → Bool) (xs : List A) (x : A) → Has (filter f xs) x → Has xs x × (f x ≡ true)
+filter_has f [] x h = absurd (has_none x h)
+filter_has {A = A} f (y ∷ xs) x h = go (filter_has f xs x) (f y) refl h
+  where
+    go : (Has (filter f xs) x → Has xs x × (f x ≡ true)) → (b : Bool) → f y ≡ b → Has (cond b (y ∷ filter f xs) (filter f xs)) x → Has (y ∷ xs) x × (f x ≡ true)
+    go ih false q h = let r = ih h in (has_rest y xs x r.0, r.1)
+    go ih true q h = at (has_cases y (filter f xs) x h)
+      where
+        at : (y ≡ x) ⊎ Has (filter f xs) x → Has (y ∷ xs) x × (f x ≡ true)
+        at (inl s) = ((0, ap Some s), ap f (sym s) ∙ q)
+        at (inr h) = let r = ih h in (has_rest y xs x r.0, r.1)
+
+pub filter_all : {A : Type 0} (f : A → Bool) (xs : List A) → ((x : A) → Has xs x → f x ≡ true) → filter f xs ≡ xs
+filter_all f [] each = refl
+filter_all f (y ∷ xs) each =
+    ap (λ b. cond b (y ∷ filter f xs) (filter f xs)) (each y (0, refl)) ∙ ap (λ zs. y ∷ zs) (filter_all f xs (λ x h. each x (has_rest y xs x h)))

@@ -253,7 +253,7 @@ module _ (p : Table) (g : Environment) where
   args_named [] h = refl
   args_named (y ∷ ys) h =
       let parts = and_parts (is_some (type_of p g y.0.expr)) (is_some (arg_types p g (args_of Named ys)))
-          (sym (some_types (type_of p g y.0.expr) (map (λ (x : JudgedExpr). x.type) (judged_args p g (args_of Named ys)))) ∙ h) in
+      (sym (some_types (type_of p g y.0.expr) (map (λ (x : JudgedExpr). x.type) (judged_args p g (args_of Named ys)))) ∙ h) in
       list_all-append (is_known p) (classes_named_by y.0.expr) (joined (map (λ (a : Arg). classes_named_by a.expr) (args_of Named ys)))
       ∙ and_from (list_all (is_known p) (classes_named_by y.0.expr)) (list_all (is_known p) (joined (map (λ (a : Arg). classes_named_by a.expr) (args_of Named ys))))
       (y.1 parts.0) (args_named ys parts.1)
@@ -297,7 +297,7 @@ module _ (p : Table) (g : Environment) where
   named_cast slot c on ih h =
       let t : Option (List ℕ) = type_of p g on in
       let parts = three (is_some t) (is_known p c) (not (is_unrelated p t c))
-          (sym (some_type (is_some t && is_known p c && not (is_unrelated p t c)) c) ∙ sym (ap is_some (type_cast p g slot c on)) ∙ h) in
+      (sym (some_type (is_some t && is_known p c && not (is_unrelated p t c)) c) ∙ sym (ap is_some (type_cast p g slot c on)) ∙ h) in
       ap (list_all (is_known p)) (fold_cast (List (List ℕ)) (List (List ℕ)) classes_named_step (λ a. a.expr) slot c on)
       ∙ and_from (is_known p c) (list_all (is_known p) (classes_named_by on)) parts.1 (ih parts.0)
 

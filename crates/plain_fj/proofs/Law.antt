@@ -1,11 +1,13 @@
 -- A class table is well typed exactly where no rule breaks.
-use Rattle.std.proofs.Common.{◌≡◌, ℕ, ◌⊎◌, inl, inr, Bool, true, false, not, ◌&&◌, List, [], ◌∷◌, ◌++◌, map, Option, None, Some, is_some, refl, sym, ◌∙◌, ap, ap₂, subst}
+use Rattle.std.proofs.Common.{◌≡◌, ℕ, ◌⊎◌, inl, inr, Bool, true, false, not, ◌&&◌, List, [], ◌∷◌, ◌++◌, length, map, nat_le, Option, None, Some, is_some, refl, sym, ◌∙◌, ap, ap₂, subst}
 use Rattle.std.specs.Prelude.{◌↔◌}
 use Rattle.std.specs.List.{list_all, list_any, find, flat_map}
 use Rattle.std.specs.Str.{bytes_eq}
 use Rattle.std.proofs.lemmas.Bool.{and_parts, and_from, not-true, not-false, not_from_false, false_from_ne_true}
 use Rattle.std.proofs.lemmas.List.Folds.{list_all-append, list_all-map}
-use Rattle.cfj_model.specs.ProductLines.{object, are_distinct}
+use Rattle.cfj_model.specs.Names.{is_short_identifier}
+use Rattle.cfj_model.specs.Expressions.{are_known}
+use Rattle.cfj_model.specs.ProductLines.{ProductLine, IsProject, object, most_fields, are_distinct, is_field, are_fields as are_kept_fields, is_ctor, are_methods, is_class}
 use Rattle.cfj_model.specs.UnitClauses.{Has}
 use Rattle.cfj_model.specs.LookUps.{Table, is_called, is_known, is_subtype, declared, chain, all_fields, ancestors, field_called, first_some, method_called, method_of}
 use Rattle.cfj_model.specs.Judging.{first_breaking, are_same, takes_fields, environment_of, extends_itself, is_no_result, is_overridden_wrongly}
@@ -20,6 +22,7 @@ use Rattle.plain_fj.proofs.Inherited.{IsSound, known_class, fields_are, are_fiel
 use Rattle.plain_fj.proofs.Typed.{HasKnownTypes, type_of, typed, derived}
 use Rattle.plain_fj.proofs.Clear.{names_known}
 use Rattle.plain_fj.proofs.Uses.{UsesKnown, uses_known, known_uses, same_is, is_same_as, pairs_same, types_same, names_same}
+use Rattle.plain_fj.proofs.Kept.{IsKept, kept, keeps, IsKeptMethod, kept_method, keeps_method}
 use Rattle.plain_fj.proofs.Quiet.{body_type, are_known_params, method_keeps, field_keeps, ctor_keeps, class_keeps, quiet_keeps, keeps_quiet}
 
 -- what a project's type keeps of the names that are declared
@@ -28,154 +31,30 @@ pub record HasDistinctNames (p : Table) : Type 0 where
   pub no_object : (k : Class) → Has p k → bytes_eq k.name object ≡ false
   pub fields : (k : Class) → Has p k → are_distinct (map (λ (f : Field). f.name) k.fields) ≡ true
 
+names_of_class : (n : ℕ) (k : Class) → is_class n k ≡ true → (bytes_eq k.name object ≡ false) × (are_distinct (map (λ (f : Field). f.name) k.fields) ≡ true)
+unfolding is_class
+names_of_class n k h =
+    let methods = and_parts (is_short_identifier k.name && not (bytes_eq k.name object) && are_known n k.colors && is_short_identifier k.parent && are_kept_fields n k.fields && is_ctor n k.ctor) (are_methods n k.methods) h in
+    let ctor = and_parts (is_short_identifier k.name && not (bytes_eq k.name object) && are_known n k.colors && is_short_identifier k.parent && are_kept_fields n k.fields) (is_ctor n k.ctor) methods.0 in
+    let fields = and_parts (is_short_identifier k.name && not (bytes_eq k.name object) && are_known n k.colors && is_short_identifier k.parent) (are_kept_fields n k.fields) ctor.0 in
+    let parent = and_parts (is_short_identifier k.name && not (bytes_eq k.name object) && are_known n k.colors) (is_short_identifier k.parent) fields.0 in
+    let colors = and_parts (is_short_identifier k.name && not (bytes_eq k.name object)) (are_known n k.colors) parent.0 in
+    let name = and_parts (is_short_identifier k.name) (not (bytes_eq k.name object)) colors.0 in
+    let distinct = and_parts (nat_le (length k.fields) most_fields && are_distinct (map (λ (f : Field). f.name) k.fields)) (list_all (is_field n) k.fields) fields.1 in
+    (not-true (bytes_eq k.name object) name.1, (and_parts (nat_le (length k.fields) most_fields) (are_distinct (map (λ (f : Field). f.name) k.fields)) distinct.0).1)
+
+-- A project's names are distinct so.
+names_kept : (q : ProductLine) → IsProject q → HasDistinctNames q.classes
+names_kept q project = record { classes = project.classes_distinct; no_object = λ k h. (each k h).0; fields = λ k h. (each k h).1 }
+  where
+    each : (k : Class) → Has q.classes k → (bytes_eq k.name object ≡ false) × (are_distinct (map (λ (f : Field). f.name) k.fields) ≡ true)
+    each k h = names_of_class (length q.model.features) k (all_has (is_class (length q.model.features)) q.classes project.each_class k h)
+
 found_by_name : (p : Table) → HasDistinctNames p → (k : Class) → Has p k → declared p k.name ≡ Some k
 found_by_name p names k h = find_distinct (λ (k : Class). k.name) p names.classes k h k.name refl
 
 object_is_free : (p : Table) → HasDistinctNames p → declared p object ≡ None
 object_is_free p names = none_find (is_called object) p names.no_object
-
--- ---- what both have
-
--- what a class has where none of its rules breaks
-record IsKept (p : Table) (k : Class) : Type 0 where
-  parent : is_known p k.parent ≡ true
-  itself : extends_itself p k ≡ false
-  fields : (f : Field) → Has k.fields f → (is_known p f.of ≡ true) × (list_any (λ a. is_some (field_called f.name a)) (ancestors p k.name) ≡ false)
-  takes : takes_fields k.ctor.params (all_fields p k.name) ≡ true
-  sends : are_same (map (λ s. s.name) k.ctor.sends) (map (λ f. f.name) (all_fields p k.parent)) ≡ true
-  assigns : are_same (map (λ a. a.name) k.ctor.assigns) (map (λ f. f.name) k.fields) ≡ true
-  ctor : are_known_params p k.ctor.params ≡ true
-  methods : (m : Method) → Has k.methods m → method_keeps p k m ≡ true
-
-kept : (p : Table) (k : Class) → class_keeps p k ≡ true → IsKept p k
-kept p k h =
-    record {
-      parent = a.0;
-      itself = not-true (extends_itself p k) b.0;
-      fields = λ f i. of f (all_has (field_keeps p k) k.fields c.0 f i);
-      takes = t.0;
-      sends = s.0;
-      assigns = r.0;
-      ctor = r.1;
-      methods = all_has (method_keeps p k) k.methods d.1;
-    }
-  where
-    fs : Bool
-    fs = list_all (field_keeps p k) k.fields
-
-    ms : Bool
-    ms = list_all (method_keeps p k) k.methods
-
-    takes : Bool
-    takes = takes_fields k.ctor.params (all_fields p k.name)
-
-    sends : Bool
-    sends = are_same (map (λ s. s.name) k.ctor.sends) (map (λ f. f.name) (all_fields p k.parent))
-
-    assigns : Bool
-    assigns = are_same (map (λ a. a.name) k.ctor.assigns) (map (λ f. f.name) k.fields)
-
-    a : (is_known p k.parent ≡ true) × ((not (extends_itself p k) && (fs && (ctor_keeps p k && ms))) ≡ true)
-    a = and_parts (is_known p k.parent) (not (extends_itself p k) && (fs && (ctor_keeps p k && ms))) h
-
-    b : (not (extends_itself p k) ≡ true) × ((fs && (ctor_keeps p k && ms)) ≡ true)
-    b = and_parts (not (extends_itself p k)) (fs && (ctor_keeps p k && ms)) a.1
-
-    c : (fs ≡ true) × ((ctor_keeps p k && ms) ≡ true)
-    c = and_parts fs (ctor_keeps p k && ms) b.1
-
-    d : (ctor_keeps p k ≡ true) × (ms ≡ true)
-    d = and_parts (ctor_keeps p k) ms c.1
-
-    t : (takes ≡ true) × ((sends && (assigns && are_known_params p k.ctor.params)) ≡ true)
-    t = and_parts takes (sends && (assigns && are_known_params p k.ctor.params)) d.0
-
-    s : (sends ≡ true) × ((assigns && are_known_params p k.ctor.params) ≡ true)
-    s = and_parts sends (assigns && are_known_params p k.ctor.params) t.1
-
-    r : (assigns ≡ true) × (are_known_params p k.ctor.params ≡ true)
-    r = and_parts assigns (are_known_params p k.ctor.params) s.1
-
-    of : (f : Field) → field_keeps p k f ≡ true → (is_known p f.of ≡ true) × (list_any (λ a. is_some (field_called f.name a)) (ancestors p k.name) ≡ false)
-    of f h =
-        let parts = and_parts (is_known p f.of) (not (list_any (λ a. is_some (field_called f.name a)) (ancestors p k.name))) h in
-        (parts.0, not-true (list_any (λ a. is_some (field_called f.name a)) (ancestors p k.name)) parts.1)
-
-keeps : (p : Table) (k : Class) → IsKept p k → class_keeps p k ≡ true
-keeps p k i =
-    and_from (is_known p k.parent) (not (extends_itself p k) && (fs && (ctor_keeps p k && ms))) i.parent
-    (and_from (not (extends_itself p k)) (fs && (ctor_keeps p k && ms)) (not_from_false (extends_itself p k) i.itself)
-      (and_from fs (ctor_keeps p k && ms) (has_all (field_keeps p k) k.fields of)
-        (and_from (ctor_keeps p k) ms (and_from takes (sends && (assigns && are_known_params p k.ctor.params)) i.takes
-          (and_from sends (assigns && are_known_params p k.ctor.params) i.sends (and_from assigns (are_known_params p k.ctor.params) i.assigns i.ctor)))
-          (has_all (method_keeps p k) k.methods i.methods))))
-  where
-    fs : Bool
-    fs = list_all (field_keeps p k) k.fields
-
-    ms : Bool
-    ms = list_all (method_keeps p k) k.methods
-
-    takes : Bool
-    takes = takes_fields k.ctor.params (all_fields p k.name)
-
-    sends : Bool
-    sends = are_same (map (λ s. s.name) k.ctor.sends) (map (λ f. f.name) (all_fields p k.parent))
-
-    assigns : Bool
-    assigns = are_same (map (λ a. a.name) k.ctor.assigns) (map (λ f. f.name) k.fields)
-
-    of : (f : Field) → Has k.fields f → field_keeps p k f ≡ true
-    of f h =
-        and_from (is_known p f.of) (not (list_any (λ a. is_some (field_called f.name a)) (ancestors p k.name))) (i.fields f h).0
-        (not_from_false (list_any (λ a. is_some (field_called f.name a)) (ancestors p k.name)) (i.fields f h).1)
-
--- what a method has where none of its rules breaks
-record IsKeptMethod (p : Table) (k : Class) (m : Method) : Type 0 where
-  result : is_known p m.result ≡ true
-  overrides : is_overridden_wrongly m (first_some (method_called m.name) (ancestors p k.name)) ≡ false
-  returns : is_no_result p m (body_type p k m) ≡ false
-  params : are_known_params p m.params ≡ true
-  typed : is_some (body_type p k m) ≡ true
-
-kept_method : (p : Table) (k : Class) (m : Method) → method_keeps p k m ≡ true → IsKeptMethod p k m
-kept_method p k m h = record { result = a.0; overrides = not-true wrong b.0; returns = not-true none c.0; params = d.0; typed = d.1 }
-  where
-    wrong : Bool
-    wrong = is_overridden_wrongly m (first_some (method_called m.name) (ancestors p k.name))
-
-    none : Bool
-    none = is_no_result p m (body_type p k m)
-
-    some : Bool
-    some = is_some (body_type p k m)
-
-    a : (is_known p m.result ≡ true) × ((not wrong && (not none && (are_known_params p m.params && some))) ≡ true)
-    a = and_parts (is_known p m.result) (not wrong && (not none && (are_known_params p m.params && some))) h
-
-    b : (not wrong ≡ true) × ((not none && (are_known_params p m.params && some)) ≡ true)
-    b = and_parts (not wrong) (not none && (are_known_params p m.params && some)) a.1
-
-    c : (not none ≡ true) × ((are_known_params p m.params && some) ≡ true)
-    c = and_parts (not none) (are_known_params p m.params && some) b.1
-
-    d : (are_known_params p m.params ≡ true) × (some ≡ true)
-    d = and_parts (are_known_params p m.params) some c.1
-
-keeps_method : (p : Table) (k : Class) (m : Method) → IsKeptMethod p k m → method_keeps p k m ≡ true
-keeps_method p k m i =
-    and_from (is_known p m.result) (not wrong && (not none && (are_known_params p m.params && some))) i.result
-    (and_from (not wrong) (not none && (are_known_params p m.params && some)) (not_from_false wrong i.overrides)
-      (and_from (not none) (are_known_params p m.params && some) (not_from_false none i.returns) (and_from (are_known_params p m.params) some i.params i.typed)))
-  where
-    wrong : Bool
-    wrong = is_overridden_wrongly m (first_some (method_called m.name) (ancestors p k.name))
-
-    none : Bool
-    none = is_no_result p m (body_type p k m)
-
-    some : Bool
-    some = is_some (body_type p k m)
 
 -- ---- sound tables
 
@@ -260,7 +139,7 @@ module _ (p : Table) (sound : IsSound p) (k : Class) (here : Has p k) where
       overrides ts r h =
           let d = method_is p sound.acyclic m.name k.parent ts r h in
           let same = not-false (are_same (param_types d.0.params) (param_types m.params) && bytes_eq d.0.result m.result)
-              (sym (ap (is_overridden_wrongly m) (nearest m ∙ d.1)) ∙ i.overrides) in
+          (sym (ap (is_overridden_wrongly m) (nearest m ∙ d.1)) ∙ i.overrides) in
           let parts = and_parts (are_same (param_types d.0.params) (param_types m.params)) (bytes_eq d.0.result m.result) same in
           (sym d.2 ∙ same_is (param_types d.0.params) (param_types m.params) parts.0, sym d.3 ∙ name_is d.0.result m.result parts.1)
 
@@ -299,7 +178,7 @@ module _ (p : Table) (sound : IsSound p) (k : Class) (here : Has p k) where
           let same = ok.overrides (param_types d.params) d.result (is_method p sound.acyclic m.name k.parent d q) in
           ap (is_overridden_wrongly m) (nearest m ∙ q)
           ∙ ap not (and_from (are_same (param_types d.params) (param_types m.params)) (bytes_eq d.result m.result) (is_same_as (param_types d.params) (param_types m.params) same.0)
-            (is_name d.result m.result same.1))
+          (is_name d.result m.result same.1))
 
   ok_class : UsesKnown p k → IsClassOk p k → IsKept p k
   ok_class uses ok =
@@ -357,7 +236,12 @@ keeps_well_typed p names each =
         }
 
 -- A class table is well typed exactly where no rule breaks.
-pub well_typed_exactly : (p : Table) → HasDistinctNames p → IsWellTyped p ↔ (first_breaking p ≡ None)
-well_typed_exactly p names =
-    (λ ok. keeps_quiet p (has_all (class_keeps p) p (well_typed_keeps p names ok)),
-      λ quiet. keeps_well_typed p names (λ k h. kept p k (all_has (class_keeps p) p (quiet_keeps p quiet) k h)))
+well_typed_exactly : (p : Table) → HasDistinctNames p → IsWellTyped p ↔ (first_breaking p ≡ None)
+well_typed_exactly p names = (
+  λ ok. keeps_quiet p (has_all (class_keeps p) p (well_typed_keeps p names ok)),
+  λ quiet. keeps_well_typed p names (λ k h. kept p k (all_has (class_keeps p) p (quiet_keeps p quiet) k h)),
+)
+
+-- The same of a project.
+pub well_typed_project : (q : ProductLine) → IsProject q → IsWellTyped q.classes ↔ (first_breaking q.classes ≡ None)
+well_typed_project q project = well_typed_exactly q.classes (names_kept q project)

@@ -6,4 +6,5 @@ pub mod Typed
 pub mod Clear
 pub mod Quiet
 pub mod Uses
+pub mod Kept
 pub mod Law

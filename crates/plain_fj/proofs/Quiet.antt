@@ -99,8 +99,8 @@ method_judged : (p : Table) (k : Class) (m : Method) → none_judged (judged_met
 method_judged p k m =
     ap (λ b. not (not (is_known p m.result)) && (not wrong && (not (is_no_result p m (body_type p k m)) && b)))
     (list_all-append (λ (j : Judged). not j.breaks) params nodes
-      ∙ ap (λ b. b && none_judged nodes) (params_judged (λ q. site.Param k.name m.name m.alt q.slot) p m.params)
-      ∙ ap (λ b. are_known_params p m.params && b) (nodes_judged (λ n. site.Node k.name m.name m.alt n) ((judged_of p (environment_of k m) m.body).rules []) ∙ clear p (environment_of k m) m.body []))
+    ∙ ap (λ b. b && none_judged nodes) (params_judged (λ q. site.Param k.name m.name m.alt q.slot) p m.params)
+    ∙ ap (λ b. are_known_params p m.params && b) (nodes_judged (λ n. site.Node k.name m.name m.alt n) ((judged_of p (environment_of k m) m.body).rules []) ∙ clear p (environment_of k m) m.body []))
     ∙ method_rules (is_known p m.result) wrong (is_no_result p m (body_type p k m)) (are_known_params p m.params) (is_some (body_type p k m))
   where
     wrong : Bool
@@ -130,11 +130,11 @@ class_judged : (p : Table) (k : Class) → none_judged (judged_class p k) ≡ cl
 class_judged p k =
     ap (λ b. not (not (is_known p k.parent)) && (not (extends_itself p k) && b))
     (list_all-append (λ (j : Judged). not j.breaks) fields (judged_ctor p k ++ methods)
-      ∙ ap (λ b. b && none_judged (judged_ctor p k ++ methods)) fields_judged
-      ∙ ap (λ b. list_all (field_keeps p k) k.fields && b)
-        (list_all-append (λ (j : Judged). not j.breaks) (judged_ctor p k) methods
-        ∙ ap (λ b. b && none_judged methods) (ctor_judged p k)
-        ∙ ap (λ b. ctor_keeps p k && b) methods_judged))
+    ∙ ap (λ b. b && none_judged (judged_ctor p k ++ methods)) fields_judged
+    ∙ ap (λ b. list_all (field_keeps p k) k.fields && b)
+    (list_all-append (λ (j : Judged). not j.breaks) (judged_ctor p k) methods
+    ∙ ap (λ b. b && none_judged methods) (ctor_judged p k)
+    ∙ ap (λ b. ctor_keeps p k && b) methods_judged))
     ∙ two_and_more (is_known p k.parent) (extends_itself p k) (list_all (field_keeps p k) k.fields && (ctor_keeps p k && list_all (method_keeps p k) k.methods))
   where
     fields : List Judged

@@ -95,52 +95,61 @@ module _ (p : Table) (g : Environment) where
       -- A type by the rules is the one that is judged, and is known.
       pub typed : (x : Expr) (t : List ℕ) → HasType p g x t → (type_of x ≡ Some t) × (is_known p t ≡ true)
       typed _ _ (t_this slot) = (type_var slot this, env.class)
-      typed _ _ (t_var slot x t other (y, q, is)) =
-          (type_var slot x ∙ ap (λ b. cond b (Some g.class) (param_type g.params x)) other ∙ ap (option_map (λ (p : Param). p.of)) q ∙ ap Some is,
-            ap (is_known p) (sym is) ∙ env.params y (find_has (λ (q : Param). bytes_eq q.name x) g.params y q).0)
+      typed _ _ (t_var slot x t other (y, q, is)) = (
+        type_var slot x ∙ ap (λ b. cond b (Some g.class) (param_type g.params x)) other ∙ ap (option_map (λ (p : Param). p.of)) q ∙ ap Some is,
+        ap (is_known p) (sym is) ∙ env.params y (find_has (λ (q : Param). bytes_eq q.name x) g.params y q).0,
+      )
       typed _ _ (t_field slot on f c t fs h inherited field) =
           let r = typed on c h in
           let all : TypesField (all_fields p c) f t = subst (λ z. TypesField z f t) (fields_are p sound.object_free sound.acyclic c fs inherited) field in
-          let w = typed_field p sound c f t all in
-          (type_get slot on f ∙ ap (λ o. accessed p o f) r.0 ∙ ap (option_map (λ (d : Field). d.of)) w.1 ∙ ap Some w.2,
-            ap (is_known p) (sym all.3) ∙ field_known p sound c all.0 all.1)
+          let w = typed_field p sound c f t all in (
+            type_get slot on f ∙ ap (λ o. accessed p o f) r.0 ∙ ap (option_map (λ (d : Field). d.of)) w.1 ∙ ap Some w.2,
+            ap (is_known p) (sym all.3) ∙ field_known p sound c all.0 all.1,
+          )
       typed _ _ (t_invk slot on m c args ts r h method below) =
           let o = typed on c h in
           let d = method_is p sound.acyclic m c ts r method in
-          let us = typed_args args ts below in
-          (type_call slot on m args
-            ∙ ap (λ o. call_type p (judged_args args) o (arg_types args) m) o.0
-            ∙ ap (λ o. call_type p (judged_args args) (Some c) o m) us.1
-            ∙ call_typed (judged_args args) c m us.0 d.0 d.1 (ap (are_below p us.0) d.2 ∙ us.2)
-            ∙ ap Some d.3,
-            ap (is_known p) (sym d.3) ∙ result_known p sound m c d.0 d.1)
+          let us = typed_args args ts below in (
+            type_call slot on m args
+                ∙ ap (λ o. call_type p (judged_args args) o (arg_types args) m) o.0
+                ∙ ap (λ o. call_type p (judged_args args) (Some c) o m) us.1
+                ∙ call_typed (judged_args args) c m us.0 d.0 d.1 (ap (are_below p us.0) d.2 ∙ us.2)
+                ∙ ap Some d.3,
+            ap (is_known p) (sym d.3) ∙ result_known p sound m c d.0 d.1,
+          )
       typed _ _ (t_new slot c args fs inherited below) =
           let known = fields_known p c fs inherited in
           let us = typed_args args (map (λ f. f.of) fs) below in
-          let same = ap (map (λ (f : Field). f.of)) (fields_are p sound.object_free sound.acyclic c fs inherited) in
-          (type_new slot c args
-            ∙ ap (λ o. new_type (is_known p c) p (judged_args args) o c) us.1
-            ∙ new_typed (judged_args args) c us.0 known (ap (are_below p us.0) (sym same) ∙ us.2),
-            known)
+          let same = ap (map (λ (f : Field). f.of)) (fields_are p sound.object_free sound.acyclic c fs inherited) in (
+            type_new slot c args
+                ∙ ap (λ o. new_type (is_known p c) p (judged_args args) o c) us.1
+                ∙ new_typed (judged_args args) c us.0 known (ap (are_below p us.0) (sym same) ∙ us.2),
+            known,
+          )
       typed _ _ (t_ucast slot c d on h below) =
           let r = typed on d h in
-          let known = known_above p sound d c below r.1 in
-          (type_cast slot c on ∙ ap (λ o. cast_type p o c) r.0
-            ∙ cast_typed c d known (or_left (is_subtype p d c) (is_subtype p c d) (subtype_holds p d c below)), known)
+          let known = known_above p sound d c below r.1 in (
+            type_cast slot c on ∙ ap (λ o. cast_type p o c) r.0
+                ∙ cast_typed c d known (or_left (is_subtype p d c) (is_subtype p c d) (subtype_holds p d c below)),
+            known,
+          )
       typed _ _ (t_dcast slot c d on h above) =
           let r = typed on d h in
-          let known = known_below p c d above r.1 in
-          (type_cast slot c on ∙ ap (λ o. cast_type p o c) r.0
-            ∙ cast_typed c d known (or_right (is_subtype p d c) (is_subtype p c d) (subtype_holds p c d above)), known)
+          let known = known_below p c d above r.1 in (
+            type_cast slot c on ∙ ap (λ o. cast_type p o c) r.0
+                ∙ cast_typed c d known (or_right (is_subtype p d c) (is_subtype p c d) (subtype_holds p c d above)),
+            known,
+          )
 
       typed_args : (args : List Arg) (ts : List (List ℕ)) → HaveTypesBelow p g args ts → (us : List (List ℕ)) × (arg_types args ≡ Some us) × (are_below p us ts ≡ true)
       typed_args _ _ no_types = ([], refl, refl)
       typed_args _ _ (one_more a args c t ts h below rest) =
           let r = typed a.expr c h in
-          let us = typed_args args ts rest in
-          (c ∷ us.0,
+          let us = typed_args args ts rest in (
+            c ∷ us.0,
             ap (λ o. types_of (o ∷ map (λ (a : JudgedExpr). a.type) (judged_args args))) r.0 ∙ ap (option_map (λ us. c ∷ us)) us.1,
-            and_from (is_subtype p c t) (are_below p us.0 ts) (subtype_holds p c t below) us.2)
+            and_from (is_subtype p c t) (are_below p us.0 ts) (subtype_holds p c t below) us.2,
+          )
 
     -- ---- from what is judged
 
@@ -168,9 +177,10 @@ module _ (p : Table) (g : Environment) where
         go (Some c) q h =
             let r = ih c q in
             let d = mapped (λ (d : Field). d.of) (field_of p c f) t h in
-            let all = nearest_has p c f d.0 d.1 in
-            (subst (HasType p g (e.Get slot on f)) d.2 (t_field slot on f c d.0.of (all_fields p c) r.0 (are_fields p sound c r.1) (d.0, all.0, all.1, refl)),
-              ap (is_known p) (sym d.2) ∙ field_known p sound c d.0 all.0)
+            let all = nearest_has p c f d.0 d.1 in (
+              subst (HasType p g (e.Get slot on f)) d.2 (t_field slot on f c d.0.of (all_fields p c) r.0 (are_fields p sound c r.1) (d.0, all.0, all.1, refl)),
+              ap (is_known p) (sym d.2) ∙ field_known p sound c d.0 all.0,
+            )
 
     args_derived : (ys : List (Proved Derived)) (us ws : List (List ℕ)) → arg_types (args_of Derived ys) ≡ Some us → are_below p us ws ≡ true
         → HaveTypesBelow p g (args_of Derived ys) ws
@@ -213,10 +223,11 @@ module _ (p : Table) (g : Environment) where
         there c q us r None s h = absurd (unlike h)
         there c q us r (Some d) s h =
             let parts = cond_some (fits (fit_numbers p us (param_types d.params))) d.result t h in
-            let below = args_derived ys us (param_types d.params) r (sym (fits_below p us (param_types d.params)) ∙ parts.0) in
-            (subst (HasType p g (e.Call slot on m args)) parts.1
-                (t_invk slot on m c args (param_types d.params) d.result (ih c q).0 (is_method p sound.acyclic m c d s) below),
-              ap (is_known p) (sym parts.1) ∙ result_known p sound m c d s)
+            let below = args_derived ys us (param_types d.params) r (sym (fits_below p us (param_types d.params)) ∙ parts.0) in (
+              subst (HasType p g (e.Call slot on m args)) parts.1
+                  (t_invk slot on m c args (param_types d.params) d.result (ih c q).0 (is_method p sound.acyclic m c d s) below),
+              ap (is_known p) (sym parts.1) ∙ result_known p sound m c d s,
+            )
 
         go : (o : Option (List ℕ)) → type_of on ≡ o → (a : Option (List (List ℕ))) → arg_types args ≡ a → call_type p (judged_args args) o a m ≡ Some t → Goal
         go None q a r h = absurd (unlike h)

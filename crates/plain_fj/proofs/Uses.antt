@@ -89,9 +89,9 @@ class_known : (p : Table) (k : Class) → list_all (is_known p) (class_uses k)
 class_known p k =
     ap (λ b. is_known p k.parent && b)
     (list_all-append (is_known p) (map (λ (f : Field). f.of) k.fields) (param_types k.ctor.params ++ joined (map method_uses k.methods))
-      ∙ ap₂ (λ a b. a && b) (list_all-map (is_known p) (λ (f : Field). f.of) k.fields)
-        (list_all-append (is_known p) (param_types k.ctor.params) (joined (map method_uses k.methods))
-        ∙ ap₂ (λ a b. a && b) (params_known p k.ctor.params) (methods_known p k.methods)))
+    ∙ ap₂ (λ a b. a && b) (list_all-map (is_known p) (λ (f : Field). f.of) k.fields)
+    (list_all-append (is_known p) (param_types k.ctor.params) (joined (map method_uses k.methods))
+    ∙ ap₂ (λ a b. a && b) (params_known p k.ctor.params) (methods_known p k.methods)))
 
 pub uses_known : (p : Table) (k : Class) → list_all (is_known p) (class_uses k) ≡ true → UsesKnown p k
 uses_known p k h =
@@ -128,7 +128,7 @@ known_uses p k u =
     class_known p k
     ∙ and_from (is_known p k.parent) (list_all (λ (f : Field). is_known p f.of) k.fields && (are_known_params p k.ctor.params && list_all (λ m. list_all (is_known p) (method_uses m)) k.methods)) u.parent
     (and_from (list_all (λ (f : Field). is_known p f.of) k.fields) (are_known_params p k.ctor.params && list_all (λ m. list_all (is_known p) (method_uses m)) k.methods) u.fields
-      (and_from (are_known_params p k.ctor.params) (list_all (λ m. list_all (is_known p) (method_uses m)) k.methods) u.ctor (has_all (λ m. list_all (is_known p) (method_uses m)) k.methods each)))
+    (and_from (are_known_params p k.ctor.params) (list_all (λ m. list_all (is_known p) (method_uses m)) k.methods) u.ctor (has_all (λ m. list_all (is_known p) (method_uses m)) k.methods each)))
   where
     each : (m : Method) → Has k.methods m → list_all (is_known p) (method_uses m) ≡ true
     each m i =

@@ -1,10 +1,12 @@
-ghost use Rattle.std.specs.Prelude.{◌≤◌, length};
+ghost use Rattle.std.specs.Prelude.{◌≡◌, ◌↔◌, None};
+ghost use Rattle.cfj_model.specs.Judging.{first_breaking};
+ghost use Rattle.cfj_model.specs.Typing.{IsWellTyped};
 
 use cfj_model::Project;
 
-/// A law.
-pub fn well_typed(project: &Project)
-    ensures { 0 ≤ length project.now.classes }
+/// A law: a project is well typed exactly where no rule breaks in it. Its colours play no part.
+pub fn well_typed_exactly(project: &Project)
+    ensures { IsWellTyped project.now.classes ↔ (first_breaking project.now.classes ≡ None) }
 {
-    let _kept = project.class_count();
+    let _kept = project.model();
 }

@@ -44,16 +44,16 @@ names_of_class n k h =
     (not-true (bytes_eq k.name object) name.1, (and_parts (nat_le (length k.fields) most_fields) (are_distinct (map (λ (f : Field). f.name) k.fields)) distinct.0).1)
 
 -- A project's names are distinct so.
-names_kept : (q : ProductLine) → IsProject q → HasDistinctNames q.classes
+pub names_kept : (q : ProductLine) → IsProject q → HasDistinctNames q.classes
 names_kept q project = record { classes = project.classes_distinct; no_object = λ k h. (each k h).0; fields = λ k h. (each k h).1 }
   where
     each : (k : Class) → Has q.classes k → (bytes_eq k.name object ≡ false) × (are_distinct (map (λ (f : Field). f.name) k.fields) ≡ true)
     each k h = names_of_class (length q.model.features) k (all_has (is_class (length q.model.features)) q.classes project.each_class k h)
 
-found_by_name : (p : Table) → HasDistinctNames p → (k : Class) → Has p k → declared p k.name ≡ Some k
+pub found_by_name : (p : Table) → HasDistinctNames p → (k : Class) → Has p k → declared p k.name ≡ Some k
 found_by_name p names k h = find_distinct (λ (k : Class). k.name) p names.classes k h k.name refl
 
-object_is_free : (p : Table) → HasDistinctNames p → declared p object ≡ None
+pub object_is_free : (p : Table) → HasDistinctNames p → declared p object ≡ None
 object_is_free p names = none_find (is_called object) p names.no_object
 
 -- ---- sound tables

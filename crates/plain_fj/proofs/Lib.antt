@@ -8,3 +8,4 @@ pub mod Quiet
 pub mod Uses
 pub mod Kept
 pub mod Law
+pub mod ByNames

@@ -1,13 +1,13 @@
 -- Maps from class names that are filled class by class.
 use Rattle.std.proofs.Common.{◌≡◌, ℕ, zero, suc, ◌+◌, ◌⊎◌, Bool, true, false, cond, List, [], ◌∷◌, length, take, Option, Some, None, slice_get, Bor, refl, sym, ◌∙◌, ap, subst, arith, add-one}
 use Rattle.std.specs.Map.{lookup}
-use Rattle.std.specs.Option.{MatchOption, option_copied}
+use Rattle.std.specs.Option.{MatchOption, option_copied, option_map_or}
 use Rattle.std.specs.Str.{bytes_eq}
 use Rattle.std.proofs.Math.Seq.{take-length}
 use Rattle.cfj_model.specs.UnitClauses.{Has}
-use Rattle.cfj_model.specs.LookUps.{Table, declared}
+use Rattle.cfj_model.specs.LookUps.{Table, declared, without, added, chain_in, chain}
 use Rattle.cfj_model.specs.declared.class.Class.{Class}
-use Rattle.plain_fj.specs.ByName.{Knows, IsClassOf, HasClasses}
+use Rattle.plain_fj.specs.ByName.{Knows, IsClassOf, HasClasses, seen, IsChainOf, HasChains}
 use Rattle.plain_fj.proofs.Members.{unlike, name_is}
 
 none_more : (p : Table) (i : ℕ) (k : Class) (q : List ℕ) → slice_get p i ≡ Some k → bytes_eq k.name q ≡ false → declared (take i p) q ≡ None → declared (take (suc i) p) q ≡ None
@@ -44,3 +44,27 @@ knows_classes p i es e known q = go (lookup (λ k. bytes_eq q.now k.now) es) (kn
     go : (o : Option (Bor Class)) → MatchOption o (declared (take i p) q.now ≡ None) (IsClassOf p q.now) → option_copied o ≡ declared p q.now
     go None h = sym h ∙ ap (λ n. declared (take n p) q.now) e ∙ ap (λ z. declared z q.now) (take-length p)
     go (Some k) h = sym h
+
+no_chain_in : (k : ℕ) (p : Table) (n : List ℕ) → declared p n ≡ None → chain_in k p n ≡ []
+unfolding chain_in
+no_chain_in zero p n none = refl
+no_chain_in (suc k) p n none = ap (added (λ c. chain_in k (without n p) c.parent)) none
+
+no_chain : (p : Table) (n : List ℕ) → declared p n ≡ None → chain p n ≡ []
+no_chain p n none = no_chain_in (length p) p n none
+
+pub knows_chains : (p : Table) (i : ℕ) (es : List (Bor (List ℕ) × List (Bor Class))) → i ≡ length p → Knows (IsChainOf p) p i es → HasChains p es
+knows_chains p i es e known q = go (lookup (λ k. bytes_eq q.now k.now) es) (known q)
+  where
+    go : (o : Option (List (Bor Class))) → MatchOption o (declared (take i p) q.now ≡ None) (IsChainOf p q.now) → option_map_or seen o [] ≡ chain p q.now
+    go None h = sym (no_chain p q.now (sym (ap (λ n. declared (take n p) q.now) e ∙ ap (λ z. declared z q.now) (take-length p)) ∙ h))
+    go (Some ks) h = h
+
+-- what is found is found by what was asked
+pub chain_read : (p : Table) (es : List (Bor (List ℕ) × List (Bor Class))) (q : Bor (List ℕ)) (name : List ℕ) (ks : List (Bor Class)) → HasChains p es → q.now ≡ name
+    → lookup (λ k. bytes_eq q.now k.now) es ≡ Some ks → seen ks ≡ chain p name
+chain_read p es q name ks chains e found = sym (ap (λ o. option_map_or seen o []) found) ∙ chains q ∙ ap (chain p) e
+
+pub chain_missed : (p : Table) (es : List (Bor (List ℕ) × List (Bor Class))) (q : Bor (List ℕ)) (name : List ℕ) → HasChains p es → q.now ≡ name
+    → lookup (λ k. bytes_eq q.now k.now) es ≡ None → [] ≡ chain p name
+chain_missed p es q name chains e found = sym (ap (λ o. option_map_or seen o []) found) ∙ chains q ∙ ap (chain p) e

@@ -19,7 +19,7 @@ declared_name p n k e = name_is k.name n (find_has (is_called n) p k e).1
 pub declared_has : (p : Table) (n : List ℕ) (k : Class) → declared p n ≡ Some k → Has p k
 declared_has p n k e = (find_has (is_called n) p k e).0
 
-taken : (p : Table) (n : List ℕ) → declared (without n p) n ≡ None
+pub taken : (p : Table) (n : List ℕ) → declared (without n p) n ≡ None
 taken [] n = refl
 taken (k ∷ ks) n = go (taken ks n) (bytes_eq k.name n) refl
   where
@@ -28,7 +28,7 @@ taken (k ∷ ks) n = go (taken ks n) (bytes_eq k.name n) refl
     go ih false q = ap (λ t. cond t (Some k) (declared (without n ks) n)) q ∙ ih
 
 -- another name is found as before
-others : (p : Table) (n m : List ℕ) → (m ≡ n → ⊥) → declared (without n p) m ≡ declared p m
+pub others : (p : Table) (n m : List ℕ) → (m ≡ n → ⊥) → declared (without n p) m ≡ declared p m
 others [] n m ne = refl
 others (k ∷ ks) n m ne = go (others ks n m ne) (bytes_eq k.name n) refl
   where

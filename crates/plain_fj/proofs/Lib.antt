@@ -9,3 +9,5 @@ pub mod Uses
 pub mod Kept
 pub mod Law
 pub mod ByNames
+pub mod Walking
+pub mod Nearest

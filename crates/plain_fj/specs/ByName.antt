@@ -2,7 +2,7 @@
 use Rattle.std.specs.Prelude.{◌≡◌, ℕ, List, [], ◌∷◌, map, length, take, Some, None}
 use Rattle.std.specs.Borrow.{Bor}
 use Rattle.std.specs.Map.{lookup}
-use Rattle.std.specs.Option.{MatchOption, option_copied}
+use Rattle.std.specs.Option.{MatchOption, option_copied, option_map_or}
 use Rattle.std.specs.Str.{bytes_eq}
 use Rattle.cfj_model.specs.LookUps.{Table, declared, chain, without}
 use Rattle.cfj_model.specs.declared.class.Class.{Class}
@@ -27,3 +27,11 @@ seen ks = map (λ k. k.now) ks
 abbrev pub without_all : List Class → Table → Table
 without_all [] p = p
 without_all (k ∷ ks) p = without_all ks (without k.name p)
+
+-- each name has its chain, and names without one aren't declared
+abbrev pub HasChains : Table → List (Bor (List ℕ) × List (Bor Class)) → Type 0
+HasChains p entries = (q : Bor (List ℕ)) → option_map_or seen (lookup (λ k. bytes_eq q.now k.now) entries) [] ≡ chain p q.now
+
+-- the chain of this name
+abbrev pub IsChainOf : Table → List ℕ → List (Bor Class) → Type 0
+IsChainOf p name classes = seen classes ≡ chain p name

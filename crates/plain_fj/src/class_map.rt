@@ -3,7 +3,7 @@ ghost use Rattle.std.specs.Option.{option_copied};
 ghost use Rattle.cfj_model.specs.LookUps as spec;
 ghost use Rattle.plain_fj.specs.ByName.{HasClasses};
 
-use cfj_model::{Class, Project};
+use cfj_model::{Class, Name, Project};
 use indexmap::IndexMap;
 use std::alloc::{AllocError, Global};
 use std::marker::Model;
@@ -48,10 +48,10 @@ impl<'a> ClassMap<'a> {
     }
 
     /// The class of this name.
-    pub fn declared(&self, name: &str) -> Option<&'a Class>
+    pub fn declared(&self, name: &Name) -> Option<&'a Class>
         ensures { option_copied result ≡ spec.declared self.now name.now }
     {
-        self.by_name.get(name).copied()
+        self.by_name.get(name.text()).copied()
     }
 }
 

@@ -2,6 +2,7 @@
 #![tactic(auto)]
 
 mod class_map;
+mod class_table;
 mod laws;
 mod superclasses;
 

@@ -7,7 +7,7 @@ ghost use Rattle.cfj_model.specs.declared.class.Class.{Class};
 ghost use Rattle.plain_fj.specs.ByName.{seen};
 
 use crate::class_map::ClassMap;
-use cfj_model::Class;
+use cfj_model::{Class, Name};
 use indexmap::IndexMap;
 use std::alloc::{AllocError, Global};
 
@@ -15,7 +15,7 @@ use std::alloc::{AllocError, Global};
 fn untaken<'a>(
     classes: &ClassMap<'a>,
     taken: &IndexMap<&'a str, &'a Class>,
-    name: &str,
+    name: &Name,
 ) -> Option<&'a Class>
     ensures {
         option_copied result ≡
@@ -23,7 +23,7 @@ fn untaken<'a>(
             else spec.declared classes.now name.now)
     }
 {
-    if taken.get(name).is_some() {
+    if taken.get(name.text()).is_some() {
         return None;
     }
     classes.declared(name)
@@ -33,7 +33,7 @@ fn untaken<'a>(
 pub fn chain<'a>(
     alloc: Global,
     classes: &ClassMap<'a>,
-    name: &'a str,
+    name: &'a Name,
 ) -> Result<Vec<&'a Class>, AllocError>
     ensures { IfOk result (λ found. seen found.items ≡ spec.chain classes.now name.now) }
 {
@@ -46,7 +46,7 @@ pub fn chain<'a>(
             Some(class) => {
                 taken.insert(class.name.text(), class)?;
                 found.push(class)?;
-                at = class.parent.text();
+                at = &class.parent;
             }
         }
     }

@@ -11,3 +11,4 @@ pub mod Law
 pub mod ByNames
 pub mod Walking
 pub mod Nearest
+pub mod FirstNodes

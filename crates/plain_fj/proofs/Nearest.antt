@@ -3,7 +3,7 @@ use Rattle.std.proofs.Common.{◌≡◌, ℕ, zero, suc, ◌+◌, ◌<◌, ◌�
 use Rattle.std.specs.List.{list_any}
 use Rattle.std.specs.Option.{option_copied}
 use Rattle.std.specs.Str.{bytes_eq}
-use Rattle.cfj_model.specs.LookUps.{first_some}
+use Rattle.cfj_model.specs.LookUps.{Table, chain, is_subtype, first_some}
 use Rattle.cfj_model.specs.declared.class.Class.{Class}
 use Rattle.plain_fj.specs.ByName.{seen}
 use Rattle.plain_fj.proofs.Members.{not_true}
@@ -50,3 +50,9 @@ module _ {B : Type 0} (of : Class → Option B) (ks : List (Bor Class)) (i : ℕ
 pub any_seen : (f : Class → Bool) (ks : List (Bor Class)) → list_any (λ k. f k.now) ks ≡ list_any f (seen ks)
 any_seen f [] = refl
 any_seen f (k ∷ ks) = ap (λ b. f k.now || b) (any_seen f ks)
+
+pub subtype_is : (p : Table) (c d : List ℕ) (ks : List (Bor Class)) (b : Bool) → seen ks ≡ chain p c → bytes_eq c d ≡ false
+    → b ≡ list_any (λ k. bytes_eq k.now.parent d) ks → b ≡ is_subtype p c d
+subtype_is p c d ks b read other is =
+    is ∙ any_seen (λ k. bytes_eq k.parent d) ks ∙ ap (list_any (λ k. bytes_eq k.parent d)) read
+    ∙ ap (λ r. r || list_any (λ k. bytes_eq k.parent d) (chain p c)) (sym other)

@@ -1,4 +1,4 @@
-ghost use Rattle.std.specs.Prelude.{◌≡◌, IfOk};
+ghost use Rattle.std.specs.Prelude.{◌≡◌, [], IfOk};
 ghost use Rattle.std.specs.Option.{option_copied};
 ghost use Rattle.std.specs.List.{list_any};
 ghost use Rattle.std.specs.Str.{bytes_eq};
@@ -17,6 +17,8 @@ use std::marker::Model;
 pub struct ClassTable<'a> {
     classes: ClassMap<'a>,
     chains: IndexMap<&'a str, Items<&'a Class>>,
+    no_chain: Items<&'a Class>,
+    ghost none: { no_chain ≡ [] },
     ghost chained: { HasChains classes chains.entries },
 }
 
@@ -40,7 +42,11 @@ impl<'a> ClassTable<'a> {
     {
         let classes = ClassMap::of(alloc, project)?;
         let chains = chains_of(alloc, project, &classes)?;
-        Ok(ClassTable { classes, chains })
+        Ok(ClassTable {
+            classes,
+            chains,
+            no_chain: Items::of(Vec::new(alloc)),
+        })
     }
 
     /// A class, its superclass, and so on, up to an undeclared name or to a class that is taken already.
@@ -49,7 +55,7 @@ impl<'a> ClassTable<'a> {
     {
         match self.chains.get(name.text()) {
             Some(chain) => chain.slice(),
-            None => &[],
+            None => self.no_chain.slice(),
         }
     }
 

@@ -12,3 +12,4 @@ pub mod ByNames
 pub mod Walking
 pub mod Nearest
 pub mod FirstNodes
+pub mod TypeLists

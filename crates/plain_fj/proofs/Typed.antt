@@ -71,18 +71,18 @@ module _ (p : Table) (g : Environment) where
   -- ---- from the rules
 
   -- the call of a method that is there, with arguments that fit
-  call_typed : {A : Type 0} (xs : List A) (c m : List ℕ) (us : List (List ℕ)) (d : Method) → method_of p c m ≡ Some d → are_below p us (param_types d.params) ≡ true
+  pub call_typed : {A : Type 0} (xs : List A) (c m : List ℕ) (us : List (List ℕ)) (d : Method) → method_of p c m ≡ Some d → are_below p us (param_types d.params) ≡ true
       → call_type p xs (Some c) (Some us) m ≡ Some d.result
   call_typed xs c m us d q b =
       ap (λ o. result_type (fits (fit_of p xs (Some us) (option_map (λ (d : Method). param_types d.params) o))) o) q
       ∙ ap (λ b. type_if b d.result) (fits_below p us (param_types d.params) ∙ b)
 
-  new_typed : {A : Type 0} (xs : List A) (c : List ℕ) (us : List (List ℕ)) → is_known p c ≡ true → are_below p us (map (λ (f : Field). f.of) (all_fields p c)) ≡ true
+  pub new_typed : {A : Type 0} (xs : List A) (c : List ℕ) (us : List (List ℕ)) → is_known p c ≡ true → are_below p us (map (λ (f : Field). f.of) (all_fields p c)) ≡ true
       → new_type (is_known p c) p xs (Some us) c ≡ Some c
   new_typed xs c us known b =
       ap (λ k. new_type k p xs (Some us) c) known ∙ ap (λ b. type_if b c) (fits_below p us (map (λ (f : Field). f.of) (all_fields p c)) ∙ b)
 
-  cast_typed : (c d : List ℕ) → is_known p c ≡ true → is_subtype p d c || is_subtype p c d ≡ true → cast_type p (Some d) c ≡ Some c
+  pub cast_typed : (c d : List ℕ) → is_known p c ≡ true → is_subtype p d c || is_subtype p c d ≡ true → cast_type p (Some d) c ≡ Some c
   cast_typed c d known related = ap (λ k. type_if (true && k && not (k && not (is_subtype p d c) && not (is_subtype p c d))) c) known ∙ go (is_subtype p d c) (is_subtype p c d) related
     where
       go : (a b : Bool) → a || b ≡ true → type_if (true && true && not (true && not a && not b)) c ≡ Some c

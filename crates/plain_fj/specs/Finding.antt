@@ -1,5 +1,5 @@
 -- The first rule that breaks among an expression's nodes, as code finds it.
-use Rattle.std.specs.Prelude.{◌≡◌, ℕ, List, [], ◌∷◌, map, flat_map, find, Option, Some, None, option_map}
+use Rattle.std.specs.Prelude.{◌≡◌, ℕ, suc, Bool, true, false, List, [], ◌∷◌, map, flat_map, find, Option, Some, None, option_map}
 use Rattle.std.specs.Option.{option_or}
 use Rattle.cfj_model.specs.Judging.{Verdict, JudgedExpr, types_of}
 use Rattle.cfj_model.specs.Typing.{Environment}
@@ -27,3 +27,9 @@ slot_of = fold-Expr ℕ ℕ slot_step (λ a. a.expr)
 -- the first rule that breaks at a node of these expressions
 abbrev pub first_of_all : List JudgedExpr → Option (ℕ × Rule)
 first_of_all js = first_node (flat_map (λ j. j.rules []) js)
+
+-- the place of the first that is true
+abbrev pub first_true : List Bool → Option ℕ
+first_true [] = None
+first_true (true ∷ bs) = Some 0
+first_true (false ∷ bs) = option_map (λ i. suc i) (first_true bs)

@@ -17,11 +17,9 @@ fn untaken<'a>(
     taken: &IndexMap<&'a str, &'a Class>,
     name: &Name,
 ) -> Option<&'a Class>
-    ensures {
-        option_copied result ≡
+    ensures { option_copied result ≡
         (if is_some (lookup (λ k. bytes_eq name.now k.now) taken.now.entries) then (let none : Option Class = None in none)
-            else spec.declared classes.now name.now)
-    }
+        else spec.declared classes.now name.now) }
 {
     if taken.get(name.text()).is_some() {
         return None;

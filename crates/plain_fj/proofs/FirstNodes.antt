@@ -1,15 +1,17 @@
 -- The first rule that breaks among an expression's nodes, by its parts.
-use Rattle.std.proofs.Common.{◌≡◌, ℕ, zero, suc, ◌⊎◌, inl, inr, Bool, true, false, not, ◌&&◌, ◌||◌, ◌==◌, cond, List, [], ◌∷◌, ◌++◌, length, map, Option, None, Some, is_some, option_map, slice_get, position, refl, sym, ◌∙◌, ap, ap₂, subst, arith}
+use Rattle.std.proofs.Common.{◌≡◌, ℕ, zero, suc, ◌⊎◌, inl, inr, Bool, true, false, not, ◌&&◌, ◌||◌, ◌==◌, cond, List, [], ◌∷◌, ◌++◌, length, map, Option, None, Some, is_some, option_map, slice_get, position, Bor, refl, sym, ◌∙◌, ap, ap₂, subst, arith}
 use Rattle.std.specs.List.{list_all, list_any, find, flat_map}
 use Rattle.std.specs.Option.{option_or}
+use Rattle.std.specs.Str.{bytes_eq}
 use Rattle.std.proofs.lemmas.Bool.{and_parts, and_from, not-true}
 use Rattle.std.proofs.lemmas.List.{append_assoc}
 use Rattle.std.proofs.lemmas.List.Folds.{list_all-append, find-append}
 use Rattle.cfj_model.specs.LookUps.{Table, is_known, is_subtype, all_fields, field_of, method_of}
-use Rattle.cfj_model.specs.Judging.{Verdict, JudgedExpr, judged_step, judged_arg, types_of, Fit, fits, fit_of, fit_numbers, misfits, no_misfits, unjudged, argument_rules, variable_type, accessed, called, field_types, is_unrelated}
-use Rattle.cfj_model.specs.Typing.{Environment, param_types}
+use Rattle.cfj_model.specs.Judging.{Verdict, JudgedExpr, judged_step, judged_arg, types_of, Fit, fits, fit_of, fit_numbers, misfits, no_misfits, unjudged, argument_rules, variable_type, param_type, accessed, called, field_types, is_unrelated}
+use Rattle.cfj_model.specs.Typing.{Environment, this, param_types}
 use Rattle.cfj_model.specs.declared.class.Field.{Field}
 use Rattle.cfj_model.specs.declared.class.Method.{Method}
+use Rattle.cfj_model.specs.declared.class.Param.{Param}
 use Rattle.cfj_model.specs.declared.expr.Arg.{Arg}
 use Rattle.cfj_model.specs.declared.expr.Expr.{Expr}
 use Rattle.cfj_model.specs.declared.expr.Expr.TheVariants as e
@@ -17,8 +19,11 @@ use Rattle.cfj_model.specs.declared.site.Rule.{Rule}
 use Rattle.cfj_model.specs.declared.site.Rule.TheVariants.{K1, E1, E2, E3, E4, E5, E6, E7, E8}
 use Rattle.cfj_model.proofs.ExprCases.{fold_var, fold_get, fold_call, fold_new, fold_cast, Proved, args_of, Cases, by_cases}
 use Rattle.plain_fj.specs.Finding.{first_node, slot_step, slot_of, first_of_all, first_true}
+use Rattle.plain_fj.specs.Found.{IsFound}
+use Rattle.plain_fj.specs.declared.outcome.Outcome.{Outcome}
+use Rattle.plain_fj.specs.declared.outcome.Outcome.TheVariants as outcome
 use Rattle.plain_fj.proofs.Members.{unlike, not_true, mapped}
-use Rattle.plain_fj.proofs.Typed.{judged_of, type_of, judged_args, arg_types, call_type, types_where, new_type, cast_type, type_get, type_call, type_new, type_cast, call_typed, new_typed, cast_typed}
+use Rattle.plain_fj.proofs.Typed.{judged_of, type_of, judged_args, arg_types, type_var, call_type, types_where, new_type, cast_type, type_get, type_call, type_new, type_cast, call_typed, new_typed, cast_typed}
 use Rattle.plain_fj.proofs.Fitting.{fits_below}
 use Rattle.plain_fj.proofs.Clear.{none_breaks, nodes_clear, clear}
 
@@ -380,3 +385,27 @@ module _ (p : Table) (g : Environment) where
   new_fits slot c args us known typed same none =
       type_new p g slot c args ∙ ap (λ ts. new_type (is_known p c) p (judged_args p g args) ts c) typed
       ∙ new_typed p g (judged_args p g args) c us known (sym (fits_below p us (map (λ (f : Field). f.of) (all_fields p c))) ∙ fits_all us (map (λ (f : Field). f.of) (all_fields p c)) same none)
+
+  -- ---- variables
+
+  other_variable : (x : List ℕ) → bytes_eq x this ≡ false → variable_type g x ≡ param_type g.params x
+  other_variable x other = ap (λ b. cond b (Some g.class) (param_type g.params x)) other
+
+  pub var_this : (slot : ℕ) (x : List ℕ) → bytes_eq x this ≡ true → type_of p g (e.Var slot x) ≡ Some g.class
+  var_this slot x is = type_var p g slot x ∙ ap (λ b. cond b (Some g.class) (param_type g.params x)) is
+
+  pub var_param : (slot : ℕ) (x : List ℕ) (y : Param) → bytes_eq x this ≡ false → find (λ q. bytes_eq q.name x) g.params ≡ Some y → type_of p g (e.Var slot x) ≡ Some y.of
+  var_param slot x y other found = type_var p g slot x ∙ other_variable x other ∙ ap (option_map (λ (q : Param). q.of)) found
+
+  pub var_unknown : (slot : ℕ) (x : List ℕ) → bytes_eq x this ≡ false → find (λ q. bytes_eq q.name x) g.params ≡ None
+      → first_node ((judged_of p g (e.Var slot x)).rules []) ≡ Some (slot, E1)
+  var_unknown slot x other none =
+      ap (λ (j : JudgedExpr). first_node (j.rules [])) (fold_var JudgedExpr JudgedExpr (judged_step p g) judged_arg slot x)
+      ∙ ap (λ t. first_node ((slot, (E1, not (is_some t)) ∷ []) ∷ [])) (other_variable x other ∙ ap (option_map (λ (q : Param). q.of)) none)
+
+-- what is found of an expression at one of its outcomes
+pub typed_is : (j : JudgedExpr) (r : Outcome) (t : Bor (List ℕ)) → IsFound j r → r ≡ outcome.Typed t → j.type ≡ Some t.now
+typed_is j r t h is = subst (IsFound j) is h
+
+pub breaks_is : (j : JudgedExpr) (r : Outcome) (slot : ℕ) (rule : Rule) → IsFound j r → r ≡ outcome.Breaks slot rule → first_node (j.rules []) ≡ Some (slot, rule)
+breaks_is j r slot rule h is = subst (IsFound j) is h

@@ -5,6 +5,7 @@
 mod class_map;
 mod class_table;
 mod laws;
+mod nodes;
 mod outcome;
 mod superclasses;
 mod wanted;

@@ -1,10 +1,9 @@
 -- Maps from class names that are filled class by class.
-use Rattle.std.proofs.Common.{◌≡◌, ℕ, zero, suc, ◌+◌, ◌⊎◌, Bool, true, false, cond, List, [], ◌∷◌, length, take, Option, Some, None, slice_get, Bor, refl, sym, ◌∙◌, ap, subst, arith, add-one}
+use Rattle.std.proofs.Common.{◌≡◌, ℕ, zero, suc, ◌+◌, Bool, true, false, cond, List, [], ◌∷◌, length, take, Option, Some, None, slice_get, Bor, refl, sym, ◌∙◌, ap, subst, add-one}
 use Rattle.std.specs.Map.{lookup}
 use Rattle.std.specs.Option.{MatchOption, option_copied, option_map_or}
 use Rattle.std.specs.Str.{bytes_eq}
 use Rattle.std.proofs.Math.Seq.{take-length}
-use Rattle.cfj_model.specs.UnitClauses.{Has}
 use Rattle.cfj_model.specs.LookUps.{Table, declared, without, added, chain_in, chain}
 use Rattle.cfj_model.specs.declared.class.Class.{Class}
 use Rattle.plain_fj.specs.ByName.{Knows, IsClassOf, HasClasses, seen, IsChainOf, HasChains}

@@ -1,11 +1,11 @@
 -- No rule of an expression's nodes breaks exactly where the expression has a type; the classes that it names are known then.
-use Rattle.std.proofs.Common.{◌≡◌, ℕ, suc, Bool, true, false, not, ◌&&◌, ◌||◌, ◌==◌, cond, List, [], ◌∷◌, ◌++◌, length, map, Option, None, Some, is_some, option_map, refl, sym, ◌∙◌, ap, arith}
+use Rattle.std.proofs.Common.{◌≡◌, ℕ, suc, Bool, true, false, not, ◌&&◌, ◌||◌, ◌==◌, cond, List, [], ◌∷◌, length, map, Option, None, Some, is_some, option_map, refl, sym, ◌∙◌, ap, arith}
 use Rattle.std.specs.List.{list_all, list_any}
 use Rattle.std.proofs.lemmas.Bool.{and_parts, and_from}
 use Rattle.std.proofs.lemmas.List.{length-map}
 use Rattle.std.proofs.lemmas.List.Folds.{list_all-append}
-use Rattle.cfj_model.specs.LookUps.{Table, is_known, is_subtype}
-use Rattle.cfj_model.specs.Judging.{Verdict, JudgedExpr, judged_step, judged_arg, types_of, Fit, fits, fit_of, fit_numbers, misfits, no_misfits, unjudged, argument_rules, type_if, variable_type, accessed, called, result_type, field_types, is_unrelated}
+use Rattle.cfj_model.specs.LookUps.{Table, is_known}
+use Rattle.cfj_model.specs.Judging.{Verdict, JudgedExpr, judged_step, judged_arg, types_of, Fit, fits, fit_of, fit_numbers, misfits, no_misfits, argument_rules, type_if, variable_type, accessed, called, result_type, field_types, is_unrelated}
 use Rattle.cfj_model.specs.Typing.{Environment, param_types, classes_named_by, classes_named_step, joined}
 use Rattle.cfj_model.specs.declared.class.Method.{Method}
 use Rattle.cfj_model.specs.declared.expr.Arg.{Arg}
@@ -13,9 +13,9 @@ use Rattle.cfj_model.specs.declared.expr.Expr.{Expr}
 use Rattle.cfj_model.specs.declared.expr.Expr.TheVariants as e
 use Rattle.cfj_model.specs.declared.site.Rule.{Rule}
 use Rattle.cfj_model.specs.declared.site.Rule.TheVariants.{E2, E3, E4, E5, E7}
-use Rattle.cfj_model.proofs.ExprCases.{fold_var, fold_get, fold_call, fold_new, fold_cast, Proved, args_of, Cases, by_cases}
-use Rattle.plain_fj.proofs.Members.{unlike, not_true, all_flat_map}
-use Rattle.plain_fj.proofs.Typed.{call_type, new_type, cast_type, type_of, judged_of, judged_args, arg_types, type_var, type_get, type_call, type_new, type_cast}
+use Rattle.cfj_model.proofs.ExprCases.{fold_var, fold_get, fold_call, fold_new, fold_cast, Proved, args_of, by_cases}
+use Rattle.plain_fj.proofs.Members.{unlike, not_true}
+use Rattle.plain_fj.proofs.Typed.{type_of, judged_of, judged_args, arg_types, type_var, type_get, type_call, type_new, type_cast}
 
 -- none of these rules breaks
 abbrev pub none_breaks : List Verdict → Bool

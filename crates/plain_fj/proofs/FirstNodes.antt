@@ -1,13 +1,12 @@
 -- The first rule that breaks among an expression's nodes, by its parts.
-use Rattle.std.proofs.Common.{◌≡◌, ℕ, zero, suc, ◌⊎◌, inl, inr, Bool, true, false, not, ◌&&◌, ◌||◌, ◌==◌, cond, List, [], ◌∷◌, ◌++◌, length, map, Option, None, Some, is_some, option_map, slice_get, position, Bor, refl, sym, ◌∙◌, ap, ap₂, subst, arith}
-use Rattle.std.specs.List.{list_all, list_any, find, flat_map}
+use Rattle.std.proofs.Common.{◌≡◌, ℕ, suc, Bool, true, false, not, ◌&&◌, ◌||◌, ◌==◌, cond, List, [], ◌∷◌, ◌++◌, length, map, Option, None, Some, is_some, option_map, slice_get, Bor, refl, sym, ◌∙◌, ap, ap₂, subst}
+use Rattle.std.specs.List.{list_any, find, flat_map}
 use Rattle.std.specs.Option.{option_or}
 use Rattle.std.specs.Str.{bytes_eq}
-use Rattle.std.proofs.lemmas.Bool.{and_parts, and_from, not-true}
-use Rattle.std.proofs.lemmas.List.{append_assoc}
+use Rattle.std.proofs.lemmas.Bool.{and_parts, not-true}
 use Rattle.std.proofs.lemmas.List.Folds.{list_all-append, find-append}
 use Rattle.cfj_model.specs.LookUps.{Table, is_known, is_subtype, all_fields, field_of, method_of}
-use Rattle.cfj_model.specs.Judging.{Verdict, JudgedExpr, judged_step, judged_arg, types_of, Fit, fits, fit_of, fit_numbers, misfits, no_misfits, unjudged, argument_rules, variable_type, param_type, accessed, called, field_types, is_unrelated}
+use Rattle.cfj_model.specs.Judging.{Verdict, JudgedExpr, judged_step, judged_arg, types_of, Fit, fits, fit_of, fit_numbers, misfits, no_misfits, argument_rules, variable_type, param_type, accessed, called, field_types, is_unrelated}
 use Rattle.cfj_model.specs.Typing.{Environment, this, param_types}
 use Rattle.cfj_model.specs.declared.class.Field.{Field}
 use Rattle.cfj_model.specs.declared.class.Method.{Method}
@@ -17,12 +16,12 @@ use Rattle.cfj_model.specs.declared.expr.Expr.{Expr}
 use Rattle.cfj_model.specs.declared.expr.Expr.TheVariants as e
 use Rattle.cfj_model.specs.declared.site.Rule.{Rule}
 use Rattle.cfj_model.specs.declared.site.Rule.TheVariants.{K1, E1, E2, E3, E4, E5, E6, E7, E8}
-use Rattle.cfj_model.proofs.ExprCases.{fold_var, fold_get, fold_call, fold_new, fold_cast, Proved, args_of, Cases, by_cases}
+use Rattle.cfj_model.proofs.ExprCases.{fold_var, fold_get, fold_call, fold_new, fold_cast, args_of, by_cases}
 use Rattle.plain_fj.specs.Finding.{first_node, slot_step, slot_of, first_of_all, first_true}
 use Rattle.plain_fj.specs.Found.{IsFound}
 use Rattle.plain_fj.specs.declared.outcome.Outcome.{Outcome}
 use Rattle.plain_fj.specs.declared.outcome.Outcome.TheVariants as outcome
-use Rattle.plain_fj.proofs.Members.{unlike, not_true, mapped}
+use Rattle.plain_fj.proofs.Members.{unlike, mapped}
 use Rattle.plain_fj.proofs.Typed.{judged_of, type_of, judged_args, arg_types, type_var, call_type, types_where, new_type, cast_type, type_get, type_call, type_new, type_cast, call_typed, new_typed, cast_typed}
 use Rattle.plain_fj.proofs.Fitting.{fits_below}
 use Rattle.plain_fj.proofs.Clear.{none_breaks, nodes_clear, clear}

@@ -1,10 +1,10 @@
 -- Arguments fit exactly where each has a subtype of what is wanted at its place, and none is missing or too many.
-use Rattle.std.proofs.Common.{◌≡◌, ℕ, zero, suc, ◌⊎◌, inl, inr, ◌≢◌, Bool, true, false, not, ◌&&◌, ◌||◌, ◌==◌, eqb, cond, List, [], ◌∷◌, length, map, Option, None, Some, is_some, option_map, refl, sym, ◌∙◌, ap, arith}
+use Rattle.std.proofs.Common.{◌≡◌, ℕ, suc, ◌⊎◌, inl, inr, ◌≢◌, Bool, true, false, not, ◌&&◌, ◌||◌, ◌==◌, eqb, cond, List, [], ◌∷◌, length, refl, sym, ◌∙◌, ap, arith}
 use Rattle.std.specs.List.{list_any}
 use Rattle.std.proofs.lemmas.Bool.{ne_eqb, eq-eqb}
 use Rattle.std.proofs.lemmas.Bool.Decides.{eqb_tells}
 use Rattle.cfj_model.specs.LookUps.{Table, is_subtype}
-use Rattle.cfj_model.specs.Judging.{Fit, fits, fit_numbers, misfits, no_misfits}
+use Rattle.cfj_model.specs.Judging.{fits, fit_numbers, misfits, no_misfits}
 
 -- as many types, each a subtype of the one at its place
 abbrev pub are_below : Table → List (List ℕ) → List (List ℕ) → Bool

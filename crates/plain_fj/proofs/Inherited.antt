@@ -1,12 +1,11 @@
 -- Fields and method types by rules are those of the chain, where no class extends itself.
-use Rattle.std.proofs.Common.{◌≡◌, ℕ, ◌⊎◌, inl, inr, Bool, true, false, not, ◌||◌, cond, List, [], ◌∷◌, ◌++◌, map, Option, None, Some, is_some, refl, sym, ◌∙◌, ap, ap₂, subst}
-use Rattle.std.specs.List.{find}
+use Rattle.std.proofs.Common.{◌≡◌, ℕ, ◌⊎◌, inl, inr, Bool, true, false, not, ◌||◌, cond, List, [], ◌∷◌, ◌++◌, map, Option, None, Some, is_some, refl, sym, ◌∙◌, ap, subst}
 use Rattle.std.specs.Str.{bytes_eq}
 use Rattle.std.proofs.lemmas.Bool.{or_cases}
 use Rattle.cfj_model.specs.ProductLines.{object, are_distinct}
 use Rattle.cfj_model.specs.UnitClauses.{Has}
 use Rattle.cfj_model.specs.LookUps.{Table, is_called, without, ancestors, declared, is_known, chain, first_some, fields_of, all_fields, field_called, field_of, method_called, method_of}
-use Rattle.cfj_model.specs.Typing.{Extends, IsSubtype, s_refl, s_extends, s_trans, HasFields, f_object, f_class, HasMethodType, mt_class, mt_super, param_types, TypesField}
+use Rattle.cfj_model.specs.Typing.{IsSubtype, s_refl, s_extends, s_trans, HasFields, f_object, f_class, HasMethodType, mt_class, mt_super, param_types, TypesField}
 use Rattle.cfj_model.specs.declared.class.Class.{Class}
 use Rattle.cfj_model.specs.declared.class.Field.{Field}
 use Rattle.cfj_model.specs.declared.class.Method.{Method}

@@ -1,29 +1,28 @@
 -- A class table is well typed exactly where no rule breaks.
-use Rattle.std.proofs.Common.{◌≡◌, ℕ, ◌⊎◌, inl, inr, Bool, true, false, not, ◌&&◌, List, [], ◌∷◌, ◌++◌, length, map, nat_le, Option, None, Some, is_some, refl, sym, ◌∙◌, ap, ap₂, subst}
+use Rattle.std.proofs.Common.{◌≡◌, ℕ, true, false, not, ◌&&◌, List, ◌++◌, length, map, nat_le, Option, None, Some, is_some, refl, sym, ◌∙◌, ap, subst}
 use Rattle.std.specs.Prelude.{◌↔◌}
-use Rattle.std.specs.List.{list_all, list_any, find, flat_map}
+use Rattle.std.specs.List.{list_all}
 use Rattle.std.specs.Str.{bytes_eq}
-use Rattle.std.proofs.lemmas.Bool.{and_parts, and_from, not-true, not-false, not_from_false, false_from_ne_true}
-use Rattle.std.proofs.lemmas.List.Folds.{list_all-append, list_all-map}
+use Rattle.std.proofs.lemmas.Bool.{and_parts, and_from, not-true, not-false, false_from_ne_true}
 use Rattle.cfj_model.specs.Names.{is_short_identifier}
 use Rattle.cfj_model.specs.Expressions.{are_known}
 use Rattle.cfj_model.specs.ProductLines.{ProductLine, IsProject, object, most_fields, are_distinct, is_field, are_fields as are_kept_fields, is_ctor, are_methods, is_class}
 use Rattle.cfj_model.specs.UnitClauses.{Has}
 use Rattle.cfj_model.specs.LookUps.{Table, is_called, is_known, is_subtype, declared, chain, all_fields, ancestors, field_called, first_some, method_called, method_of}
-use Rattle.cfj_model.specs.Judging.{first_breaking, are_same, takes_fields, environment_of, extends_itself, is_no_result, is_overridden_wrongly}
-use Rattle.cfj_model.specs.Typing.{Extends, IsSubtype, HasFields, HasMethodType, HasType, IsMethodOk, IsClassOk, IsTableOk, IsWellTyped, param_types, param_pair, field_pair, classes_named_by, method_uses, class_uses, joined}
+use Rattle.cfj_model.specs.Judging.{first_breaking, are_same, environment_of, extends_itself, is_no_result, is_overridden_wrongly}
+use Rattle.cfj_model.specs.Typing.{Extends, IsSubtype, HasFields, HasMethodType, IsMethodOk, IsClassOk, IsTableOk, IsWellTyped, param_types, param_pair, field_pair, class_uses}
 use Rattle.cfj_model.specs.declared.class.Class.{Class}
 use Rattle.cfj_model.specs.declared.class.Field.{Field}
 use Rattle.cfj_model.specs.declared.class.Method.{Method}
 use Rattle.cfj_model.specs.declared.class.Param.{Param}
-use Rattle.plain_fj.proofs.Members.{unlike, not_true, name_is, is_name, name_differs, differs_name, find_has, find_none, none_find, find_distinct, has_all, all_has, none_has, has_no, has_filter, filter_has, all_flat_map, all_same}
+use Rattle.plain_fj.proofs.Members.{not_true, name_is, is_name, name_differs, differs_name, find_none, none_find, find_distinct, has_all, all_has, none_has, has_no, has_filter, filter_has}
 use Rattle.plain_fj.proofs.Chains.{IsAcyclic, declared_name, declared_has, chain_has, above_in_chain, holds_subtype, subtype_holds, itself_found, itself_by_rules}
 use Rattle.plain_fj.proofs.Inherited.{IsSound, known_class, fields_are, are_fields, own_fields, method_is, is_method, ancestors_are}
-use Rattle.plain_fj.proofs.Typed.{HasKnownTypes, type_of, typed, derived}
+use Rattle.plain_fj.proofs.Typed.{HasKnownTypes, typed, derived}
 use Rattle.plain_fj.proofs.Clear.{names_known}
 use Rattle.plain_fj.proofs.Uses.{UsesKnown, uses_known, known_uses, same_is, is_same_as, pairs_same, types_same, names_same}
 use Rattle.plain_fj.proofs.Kept.{IsKept, kept, keeps, IsKeptMethod, kept_method, keeps_method}
-use Rattle.plain_fj.proofs.Quiet.{body_type, are_known_params, method_keeps, field_keeps, ctor_keeps, class_keeps, quiet_keeps, keeps_quiet}
+use Rattle.plain_fj.proofs.Quiet.{body_type, are_known_params, class_keeps, quiet_keeps, keeps_quiet}
 
 -- what a project's type keeps of the names that are declared
 pub record HasDistinctNames (p : Table) : Type 0 where

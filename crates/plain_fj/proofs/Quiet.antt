@@ -3,7 +3,6 @@ use Rattle.std.proofs.Common.{◌≡◌, ℕ, Bool, true, false, not, ◌&&◌, 
 use Rattle.std.specs.List.{list_all, list_any, find, flat_map}
 use Rattle.std.proofs.lemmas.Bool.{not-true, not_from_false}
 use Rattle.std.proofs.lemmas.List.Folds.{list_all-append}
-use Rattle.cfj_model.specs.UnitClauses.{Has}
 use Rattle.cfj_model.specs.LookUps.{Table, is_known, all_fields, ancestors, field_called, first_some, method_called}
 use Rattle.cfj_model.specs.Judging.{Judged, Verdict, judged_at, judged_field, judged_ctor, judged_method, judged_class, judged, pair_of, first_breaking, are_same, takes_fields, environment_of, extends_itself, is_no_result, is_overridden_wrongly}
 use Rattle.cfj_model.specs.declared.class.Class.{Class}

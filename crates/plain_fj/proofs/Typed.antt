@@ -1,20 +1,20 @@
 -- An expression has a type by the rules exactly where it is judged to have it.
-use Rattle.std.proofs.Common.{◌≡◌, ℕ, ◌⊎◌, inl, inr, Bool, true, false, not, ◌&&◌, ◌||◌, cond, if◌then◌else◌, List, [], ◌∷◌, map, Option, None, Some, is_some, option_map, refl, sym, ◌∙◌, ap, subst}
+use Rattle.std.proofs.Common.{◌≡◌, ℕ, Bool, true, false, not, ◌&&◌, ◌||◌, cond, if◌then◌else◌, List, [], ◌∷◌, map, Option, None, Some, is_some, option_map, refl, sym, ◌∙◌, ap, subst}
 use Rattle.std.specs.List.{find}
 use Rattle.std.specs.Str.{bytes_eq}
-use Rattle.std.proofs.lemmas.Bool.{and_parts, and_from, or_cases, or_left, or_right}
+use Rattle.std.proofs.lemmas.Bool.{and_parts, and_from, or_left, or_right}
 use Rattle.std.proofs.lemmas.Option.{cond_some}
 use Rattle.cfj_model.specs.UnitClauses.{Has}
 use Rattle.cfj_model.specs.LookUps.{Table, is_known, is_subtype, all_fields, field_of, method_of}
-use Rattle.cfj_model.specs.Judging.{JudgedExpr, judged_expr, judged_step, judged_arg, types_of, fits, fit_of, fit_numbers, type_if, variable_type, param_type, accessed, called, result_type, field_types, is_unrelated}
-use Rattle.cfj_model.specs.Typing.{Environment, this, param_types, TypesField, HasFields, HasMethodType, HasType, t_this, t_var, t_field, t_invk, t_new, t_ucast, t_dcast, HaveTypesBelow, no_types, one_more}
+use Rattle.cfj_model.specs.Judging.{JudgedExpr, judged_expr, judged_step, judged_arg, types_of, fits, fit_of, fit_numbers, type_if, variable_type, param_type, accessed, called, result_type, is_unrelated}
+use Rattle.cfj_model.specs.Typing.{Environment, this, param_types, TypesField, HasType, t_this, t_var, t_field, t_invk, t_new, t_ucast, t_dcast, HaveTypesBelow, no_types, one_more}
 use Rattle.cfj_model.specs.declared.class.Field.{Field}
 use Rattle.cfj_model.specs.declared.class.Method.{Method}
 use Rattle.cfj_model.specs.declared.class.Param.{Param}
 use Rattle.cfj_model.specs.declared.expr.Arg.{Arg}
 use Rattle.cfj_model.specs.declared.expr.Expr.{Expr}
 use Rattle.cfj_model.specs.declared.expr.Expr.TheVariants as e
-use Rattle.cfj_model.proofs.ExprCases.{fold_var, fold_get, fold_call, fold_new, fold_cast, Proved, args_of, Cases, by_cases}
+use Rattle.cfj_model.proofs.ExprCases.{fold_var, fold_get, fold_call, fold_new, fold_cast, Proved, args_of, by_cases}
 use Rattle.plain_fj.proofs.Members.{unlike, not_true, name_is, find_has, mapped}
 use Rattle.plain_fj.proofs.Chains.{subtype_holds, holds_subtype}
 use Rattle.plain_fj.proofs.Inherited.{IsSound, known_above, known_below, fields_are, are_fields, fields_known, field_known, nearest_has, typed_field, method_is, is_method, result_known}

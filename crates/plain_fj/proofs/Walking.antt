@@ -1,15 +1,14 @@
 -- A chain that is walked up, class by class.
-use Rattle.std.proofs.Common.{◌≡◌, ℕ, zero, suc, ◌+◌, ◌-◌, ◌<◌, ◌≤◌, ◌⊎◌, inl, inr, Bool, true, false, ◌||◌, cond, List, [], ◌∷◌, ◌++◌, length, map, Option, Some, None, is_some, Bor, refl, sym, ◌∙◌, ap, ap₂, subst, arith}
+use Rattle.std.proofs.Common.{◌≡◌, ℕ, zero, suc, Bool, true, false, ◌||◌, cond, List, [], ◌∷◌, ◌++◌, length, Option, Some, None, is_some, Bor, refl, sym, ◌∙◌, ap, ap₂}
 use Rattle.std.specs.List.{list_any}
 use Rattle.std.specs.Map.{lookup}
-use Rattle.std.specs.Option.{option_copied}
 use Rattle.std.specs.Str.{bytes_eq}
 use Rattle.std.proofs.lemmas.List.{append_assoc, append-nil}
 use Rattle.std.proofs.lemmas.List.Folds.{list_any-append}
 use Rattle.cfj_model.specs.LookUps.{Table, declared, without, added, chain_in, chain}
 use Rattle.cfj_model.specs.declared.class.Class.{Class}
 use Rattle.plain_fj.specs.ByName.{seen, without_all}
-use Rattle.plain_fj.proofs.Members.{unlike, name_is, name_differs, names_tell, is_name, differs_name}
+use Rattle.plain_fj.proofs.Members.{name_is, name_differs}
 use Rattle.plain_fj.proofs.Chains.{declared_name, taken, others}
 
 -- classes that are taken aren't found, and others as before

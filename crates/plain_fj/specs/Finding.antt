@@ -1,8 +1,7 @@
 -- The first rule that breaks among an expression's nodes, as code finds it.
-use Rattle.std.specs.Prelude.{◌≡◌, ℕ, suc, Bool, true, false, List, [], ◌∷◌, map, flat_map, find, Option, Some, None, option_map}
+use Rattle.std.specs.Prelude.{ℕ, suc, Bool, true, false, List, [], ◌∷◌, flat_map, find, Option, Some, None, option_map}
 use Rattle.std.specs.Option.{option_or}
-use Rattle.cfj_model.specs.Judging.{Verdict, JudgedExpr, types_of}
-use Rattle.cfj_model.specs.Typing.{Environment}
+use Rattle.cfj_model.specs.Judging.{Verdict, JudgedExpr}
 use Rattle.cfj_model.specs.declared.expr.Expr.{Expr}
 use Rattle.cfj_model.specs.declared.expr.Expr.TheOpen.{Expr-F}
 use Rattle.cfj_model.specs.declared.expr.Expr.TheFolds.{fold-Expr}

@@ -1,4 +1,4 @@
-use Rattle.std.proofs.Common.{◌≡◌, length, arith, sym, ◌∙◌, ap}
+use Rattle.std.proofs.Common.{◌≡◌, length, arith, ◌∙◌, ap}
 use Rattle.cfj_model.specs.LookUps.{declared}
 use Rattle.plain_fj.specs.ByName.{IsClassOf}
 use Rattle.plain_fj.proofs.ByNames.{knows_none, knows_more, knows_classes}

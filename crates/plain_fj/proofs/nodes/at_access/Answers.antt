@@ -1,4 +1,4 @@
-use Rattle.std.proofs.Common.{sym, ◌∙◌}
+use Rattle.std.proofs.Common.{sym}
 use Rattle.cfj_model.specs.Judging.{judged_expr}
 use Rattle.plain_fj.proofs.FirstNodes.{get_typed, get_breaks, get_stops, typed_is, breaks_is}
 use Rattle.plain_fj.proofs.nodes.at_access.Goals as goal

@@ -1,7 +1,5 @@
-use Rattle.std.proofs.Common.{◌≡◌, ◌+◌, ◌-◌, suc, List, [], ◌∷◌, ◌++◌, length, arith, sym, ◌∙◌, ap, refl, subst}
-use Rattle.cfj_model.specs.LookUps.{declared}
-use Rattle.cfj_model.specs.declared.class.Class.{Class}
-use Rattle.plain_fj.specs.ByName.{seen, without_all}
+use Rattle.std.proofs.Common.{◌≡◌, ◌+◌, ◌-◌, suc, length, arith, sym, ap}
+use Rattle.plain_fj.specs.ByName.{seen}
 use Rattle.plain_fj.proofs.Walking.{untaken_is, walk_ends, walk_out, walk_on, walk_begins, marked_none, seen_push, marked_more}
 use Rattle.plain_fj.proofs.superclasses.chain.Goals as goal
 

@@ -1,4 +1,4 @@
-use Rattle.std.proofs.Common.{◌-◌, ◌≤◌, length}
+use Rattle.std.proofs.Common.{◌-◌, length}
 use Rattle.plain_fj.specs.ByName.{seen}
 use Rattle.plain_fj.proofs.Walking.{IsWalked, AreMarked}
 use Rattle.plain_fj.proofs.superclasses.chain.Given as goal

@@ -1,4 +1,4 @@
-use Rattle.std.proofs.Common.{◌≡◌, ◌-◌, ◌+◌, ◌<◌, ◌≤◌, ◌++◌, suc, length, drop, slice_index_or, arith, refl, sym, ◌∙◌, ap}
+use Rattle.std.proofs.Common.{◌≡◌, ◌-◌, ◌+◌, ◌<◌, ◌≤◌, ◌++◌, suc, length, drop, slice_index_or, arith, sym, ◌∙◌, ap}
 use Rattle.cfj_model.specs.LookUps.{fields_of}
 use Rattle.plain_fj.specs.ByName.{seen}
 use Rattle.plain_fj.specs.Found.{names}

@@ -1,4 +1,4 @@
-use Rattle.std.proofs.Common.{◌≡◌, ◌++◌, map, take}
+use Rattle.std.proofs.Common.{◌≡◌, ◌++◌, take}
 use Rattle.plain_fj.specs.Found.{names}
 use Rattle.plain_fj.proofs.TypeLists.{own_types}
 use Rattle.plain_fj.proofs.wanted.push_types.Given as goal

@@ -1,0 +1,15 @@
+pub mod Members
+pub mod Chains
+pub mod Inherited
+pub mod Fitting
+pub mod Typed
+pub mod Clear
+pub mod Quiet
+pub mod Uses
+pub mod Kept
+pub mod Law
+pub mod ByNames
+pub mod Walking
+pub mod Nearest
+pub mod FirstNodes
+pub mod TypeLists

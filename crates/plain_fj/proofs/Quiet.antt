@@ -1,0 +1,172 @@
+-- Where no rule breaks, in one test for each class.
+use Rattle.std.proofs.Common.{◌≡◌, ℕ, Bool, true, false, not, ◌&&◌, List, [], ◌∷◌, ◌++◌, map, Option, None, Some, is_some, option_map, refl, sym, ◌∙◌, ap}
+use Rattle.std.specs.List.{list_all, list_any, find, flat_map}
+use Rattle.std.proofs.lemmas.Bool.{not-true, not_from_false}
+use Rattle.std.proofs.lemmas.List.Folds.{list_all-append}
+use Rattle.cfj_model.specs.LookUps.{Table, is_known, all_fields, ancestors, field_called, first_some, method_called}
+use Rattle.cfj_model.specs.Judging.{Judged, Verdict, judged_at, judged_field, judged_ctor, judged_method, judged_class, judged, pair_of, first_breaking, are_same, takes_fields, environment_of, extends_itself, is_no_result, is_overridden_wrongly}
+use Rattle.cfj_model.specs.declared.class.Class.{Class}
+use Rattle.cfj_model.specs.declared.class.Field.{Field}
+use Rattle.cfj_model.specs.declared.class.Method.{Method}
+use Rattle.cfj_model.specs.declared.class.Param.{Param}
+use Rattle.cfj_model.specs.declared.site.Rule.TheVariants.{K1}
+use Rattle.cfj_model.specs.declared.site.Site.{Site}
+use Rattle.cfj_model.specs.declared.site.Site.TheVariants as site
+use Rattle.plain_fj.proofs.Members.{unlike, find_none, none_find, has_all, all_has, all_flat_map, all_same}
+use Rattle.plain_fj.proofs.Typed.{judged_of, type_of}
+use Rattle.plain_fj.proofs.Clear.{none_breaks, nodes_clear, clear}
+
+-- none of these breaks
+abbrev none_judged : List Judged → Bool
+none_judged js = list_all (λ j. not j.breaks) js
+
+-- the type of a method's body
+abbrev pub body_type : Table → Class → Method → Option (List ℕ)
+body_type p k m = type_of p (environment_of k m) m.body
+
+abbrev pub are_known_params : Table → List Param → Bool
+are_known_params p qs = list_all (λ q. is_known p q.of) qs
+
+-- no rule of the method breaks
+abbrev pub method_keeps : Table → Class → Method → Bool
+method_keeps p k m =
+    is_known p m.result
+    && (not (is_overridden_wrongly m (first_some (method_called m.name) (ancestors p k.name)))
+    && (not (is_no_result p m (body_type p k m)) && (are_known_params p m.params && is_some (body_type p k m))))
+
+abbrev pub field_keeps : Table → Class → Field → Bool
+field_keeps p k f = is_known p f.of && not (list_any (λ a. is_some (field_called f.name a)) (ancestors p k.name))
+
+abbrev pub ctor_keeps : Table → Class → Bool
+ctor_keeps p k =
+    takes_fields k.ctor.params (all_fields p k.name)
+    && (are_same (map (λ s. s.name) k.ctor.sends) (map (λ f. f.name) (all_fields p k.parent))
+    && (are_same (map (λ a. a.name) k.ctor.assigns) (map (λ f. f.name) k.fields) && are_known_params p k.ctor.params))
+
+-- no rule of the class breaks
+abbrev pub class_keeps : Table → Class → Bool
+class_keeps p k =
+    is_known p k.parent
+    && (not (extends_itself p k) && (list_all (field_keeps p k) k.fields && (ctor_keeps p k && list_all (method_keeps p k) k.methods)))
+
+-- ---- tests
+
+one_rule : (b : Bool) → (not (not b) && true) ≡ b
+one_rule true = refl
+one_rule false = refl
+
+two_rules : (a b : Bool) → (not (not a) && (not b && true)) ≡ (a && not b)
+two_rules false b = refl
+two_rules true true = refl
+two_rules true false = refl
+
+two_and_more : (a b c : Bool) → (not (not a) && (not b && c)) ≡ (a && (not b && c))
+two_and_more true b c = refl
+two_and_more false b c = refl
+
+ctor_rules : (a b c d : Bool) → (not (not a) && (not (not b) && (not (not c) && d))) ≡ (a && (b && (c && d)))
+ctor_rules false b c d = refl
+ctor_rules true false c d = refl
+ctor_rules true true false d = refl
+ctor_rules true true true d = refl
+
+method_rules : (a b c d x : Bool) → (not (not a) && (not b && (not c && (d && (x && true))))) ≡ (a && (not b && (not c && (d && x))))
+method_rules false b c d x = refl
+method_rules true true c d x = refl
+method_rules true false true d x = refl
+method_rules true false false false x = refl
+method_rules true false false true true = refl
+method_rules true false false true false = refl
+
+-- ---- sites
+
+judged_clear : (s : Site) (vs : List Verdict) → none_judged (judged_at s vs) ≡ none_breaks vs
+judged_clear s [] = refl
+judged_clear s (v ∷ vs) = ap (λ b. not v.1 && b) (judged_clear s vs)
+
+params_judged : (at : Param → Site) (p : Table) (qs : List Param) → none_judged (flat_map (λ q. judged_at (at q) ((K1, not (is_known p q.of)) ∷ [])) qs) ≡ are_known_params p qs
+params_judged at p qs =
+    all_flat_map (λ (j : Judged). not j.breaks) (λ (q : Param). judged_at (at q) ((K1, not (is_known p q.of)) ∷ [])) qs
+    ∙ all_same (λ (q : Param). not (not (is_known p q.of)) && true) (λ (q : Param). is_known p q.of) (λ q. one_rule (is_known p q.of)) qs
+
+nodes_judged : (at : ℕ → Site) (ns : List (ℕ × List Verdict)) → none_judged (flat_map (λ n. judged_at (at n.0) n.1) ns) ≡ nodes_clear ns
+nodes_judged at ns =
+    all_flat_map (λ (j : Judged). not j.breaks) (λ (n : ℕ × List Verdict). judged_at (at n.0) n.1) ns
+    ∙ all_same (λ (n : ℕ × List Verdict). none_judged (judged_at (at n.0) n.1)) (λ (n : ℕ × List Verdict). none_breaks n.1) (λ n. judged_clear (at n.0) n.1) ns
+
+method_judged : (p : Table) (k : Class) (m : Method) → none_judged (judged_method p k m) ≡ method_keeps p k m
+method_judged p k m =
+    ap (λ b. not (not (is_known p m.result)) && (not wrong && (not (is_no_result p m (body_type p k m)) && b)))
+    (list_all-append (λ (j : Judged). not j.breaks) params nodes
+    ∙ ap (λ b. b && none_judged nodes) (params_judged (λ q. site.Param k.name m.name m.alt q.slot) p m.params)
+    ∙ ap (λ b. are_known_params p m.params && b) (nodes_judged (λ n. site.Node k.name m.name m.alt n) ((judged_of p (environment_of k m) m.body).rules []) ∙ clear p (environment_of k m) m.body []))
+    ∙ method_rules (is_known p m.result) wrong (is_no_result p m (body_type p k m)) (are_known_params p m.params) (is_some (body_type p k m))
+  where
+    wrong : Bool
+    wrong = is_overridden_wrongly m (first_some (method_called m.name) (ancestors p k.name))
+
+    params : List Judged
+    params = flat_map (λ (q : Param). judged_at (site.Param k.name m.name m.alt q.slot) ((K1, not (is_known p q.of)) ∷ [])) m.params
+
+    nodes : List Judged
+    nodes = flat_map (λ (n : ℕ × List Verdict). judged_at (site.Node k.name m.name m.alt n.0) n.1) ((judged_of p (environment_of k m) m.body).rules [])
+
+ctor_judged : (p : Table) (k : Class) → none_judged (judged_ctor p k) ≡ ctor_keeps p k
+ctor_judged p k =
+    ap (λ b. not (not takes) && (not (not sends) && (not (not assigns) && b))) (params_judged (λ q. site.CtorParam k.name q.slot) p k.ctor.params)
+    ∙ ctor_rules takes sends assigns (are_known_params p k.ctor.params)
+  where
+    takes : Bool
+    takes = takes_fields k.ctor.params (all_fields p k.name)
+
+    sends : Bool
+    sends = are_same (map (λ s. s.name) k.ctor.sends) (map (λ f. f.name) (all_fields p k.parent))
+
+    assigns : Bool
+    assigns = are_same (map (λ a. a.name) k.ctor.assigns) (map (λ f. f.name) k.fields)
+
+class_judged : (p : Table) (k : Class) → none_judged (judged_class p k) ≡ class_keeps p k
+class_judged p k =
+    ap (λ b. not (not (is_known p k.parent)) && (not (extends_itself p k) && b))
+    (list_all-append (λ (j : Judged). not j.breaks) fields (judged_ctor p k ++ methods)
+    ∙ ap (λ b. b && none_judged (judged_ctor p k ++ methods)) fields_judged
+    ∙ ap (λ b. list_all (field_keeps p k) k.fields && b)
+    (list_all-append (λ (j : Judged). not j.breaks) (judged_ctor p k) methods
+    ∙ ap (λ b. b && none_judged methods) (ctor_judged p k)
+    ∙ ap (λ b. ctor_keeps p k && b) methods_judged))
+    ∙ two_and_more (is_known p k.parent) (extends_itself p k) (list_all (field_keeps p k) k.fields && (ctor_keeps p k && list_all (method_keeps p k) k.methods))
+  where
+    fields : List Judged
+    fields = flat_map (judged_field p k) k.fields
+
+    methods : List Judged
+    methods = flat_map (judged_method p k) k.methods
+
+    fields_judged : none_judged fields ≡ list_all (field_keeps p k) k.fields
+    fields_judged =
+        all_flat_map (λ (j : Judged). not j.breaks) (judged_field p k) k.fields
+        ∙ all_same (λ (f : Field). none_judged (judged_field p k f)) (field_keeps p k)
+        (λ f. two_rules (is_known p f.of) (list_any (λ a. is_some (field_called f.name a)) (ancestors p k.name))) k.fields
+
+    methods_judged : none_judged methods ≡ list_all (method_keeps p k) k.methods
+    methods_judged =
+        all_flat_map (λ (j : Judged). not j.breaks) (judged_method p k) k.methods
+        ∙ all_same (λ (m : Method). none_judged (judged_method p k m)) (method_keeps p k) (method_judged p k) k.methods
+
+table_judged : (p : Table) → none_judged (judged p) ≡ list_all (class_keeps p) p
+unfolding judged
+table_judged p =
+    all_flat_map (λ (j : Judged). not j.breaks) (judged_class p) p ∙ all_same (λ (k : Class). none_judged (judged_class p k)) (class_keeps p) (class_judged p) p
+
+-- No rule breaks exactly where each class keeps its rules.
+pub quiet_keeps : (p : Table) → first_breaking p ≡ None → list_all (class_keeps p) p ≡ true
+quiet_keeps p h =
+    sym (table_judged p) ∙ has_all (λ (j : Judged). not j.breaks) (judged p) (λ j m. not_from_false j.breaks (find_none (λ (j : Judged). j.breaks) (judged p) (unfound (find (λ j. j.breaks) (judged p)) h) j m))
+  where
+    unfound : (o : Option Judged) → option_map pair_of o ≡ None → o ≡ None
+    unfound None h = refl
+    unfound (Some j) h = absurd (unlike (sym h))
+
+pub keeps_quiet : (p : Table) → list_all (class_keeps p) p ≡ true → first_breaking p ≡ None
+keeps_quiet p h =
+    ap (option_map pair_of) (none_find (λ (j : Judged). j.breaks) (judged p) (λ j m. not-true j.breaks (all_has (λ (j : Judged). not j.breaks) (judged p) (table_judged p ∙ h) j m)))

@@ -1,0 +1,73 @@
+ghost use Rattle.std.specs.Prelude.{◌≡◌, IfOk, OnOk, ◌++◌, length, map};
+ghost use Rattle.std.specs.Option.{option_copied};
+ghost use Rattle.cfj_model.specs.LookUps.{fields_of};
+ghost use Rattle.cfj_model.specs.Judging.{misfits};
+ghost use Rattle.cfj_model.specs.Typing as typing;
+ghost use Rattle.plain_fj.specs.ByName.{seen};
+ghost use Rattle.plain_fj.specs.Finding.{first_true};
+ghost use Rattle.plain_fj.specs.Found.{fitting_of, names};
+
+use crate::class_table::ClassTable;
+use crate::outcome::Fitting;
+use cfj_model::{Class, Field, Name, Param};
+use std::alloc::{AllocError, Global};
+
+/// The types of parameters.
+pub fn param_types<'a>(alloc: Global, params: &'a [Param]) -> Result<Vec<&'a Name>, AllocError>
+    ensures { IfOk result (λ types. names types.items ≡ typing.param_types params.now) }
+{
+    let mut types: Vec<&'a Name> = Vec::new(alloc);
+    'each: for param in params {
+        types.push(&param.of)?;
+    }
+    Ok(types)
+}
+
+/// The types of fields, behind those that are there.
+fn push_types<'a>(types: &mut Vec<&'a Name>, fields: &'a [Field]) -> Result<(), AllocError>
+    ensures { OnOk result (names types.new.items ≡ names types.old.items ++ map (λ f. f.of) fields.now) }
+{
+    'each: for field in fields {
+        types.push(&field.of)?;
+    }
+    Ok(())
+}
+
+/// The types of all fields of a chain, the last class's first.
+pub fn field_types<'a>(alloc: Global, chain: &[&'a Class]) -> Result<Vec<&'a Name>, AllocError>
+    ensures { IfOk result (λ types. names types.items ≡ map (λ f. f.of) (fields_of (seen chain.now))) }
+{
+    let mut types: Vec<&'a Name> = Vec::new(alloc);
+    let count = chain.len();
+    'each: for step in 0..count {
+        let class = chain[count - 1 - step];
+        push_types(&mut types, class.fields.slice())?;
+    }
+    Ok(types)
+}
+
+/// The place of the first type that isn't a subtype of what is wanted there.
+fn first_misfit(table: &ClassTable<'_>, types: &[&Name], wanted: &[&Name]) -> Option<usize>
+    requires { length types.now ≡ length wanted.now }
+    ensures { result ≡ first_true (misfits table.now (names types.now) (names wanted.now)) }
+{
+    'each: for place in 0..types.len() {
+        if !table.is_subtype(types[place], wanted[place]) {
+            return Some(place);
+        }
+    }
+    None
+}
+
+/// How arguments of these types fit what is wanted of them.
+pub fn fit(table: &ClassTable<'_>, types: &[&Name], wanted: &[&Name]) -> Fitting
+    ensures { result ≡ fitting_of table.now (names types.now) (names wanted.now) }
+{
+    if types.len() != wanted.len() {
+        return Fitting::Differs;
+    }
+    match first_misfit(table, types, wanted) {
+        Some(place) => Fitting::Misfits(place),
+        None => Fitting::Fits,
+    }
+}

@@ -57,14 +57,14 @@ none = record { on = λ t ts h. h }
 -- ---- one character
 
 -- an ASCII character before a text
-record Before (c : ℕ) (t : List ℕ) : Type 0 where
+record Prefixed (c : ℕ) (t : List ℕ) : Type 0 where
   utf8 : IsUtf8 (c ∷ t)
   characters : chars (c ∷ t) ≡ c ∷ chars t
 
 encodes_one : (c : ℕ) → c < 128 → encode_utf8_all (c ∷ []) ≡ c ∷ []
 encodes_one c lt = ap (λ w. w ++ []) (encode_ascii c lt)
 
-before : (c : ℕ) (t : List ℕ) → c < 128 → scalars (c ∷ []) ≡ true → IsUtf8 t → Before c t
+before : (c : ℕ) (t : List ℕ) → c < 128 → scalars (c ∷ []) ≡ true → IsUtf8 t → Prefixed c t
 before c t lt s u =
     let one : IsUtf8 (c ∷ []) = (c ∷ [], (s, encodes_one c lt)) in
     let all : IsUtf8 (c ∷ t) = IsUtf8-append (c ∷ []) t one u in
@@ -91,7 +91,7 @@ takes_passed cs ds (t ∷ ts) rest e (l, from, mid, found, is, more) q = record 
 blank_char : (c : ℕ) → c < 128 → scalars (c ∷ []) ≡ true → is_blank c ≡ true → not (is_ascii_alphanumeric c || c == 95 || c == 36) ≡ true → {a : Bool} → Reads a false (c ∷ []) (λ ts. ts)
 blank_char c lt s b n {a} = record {
   on = λ t ts h.
-      let w : Before c t = before c t lt s h.utf8 in
+      let w : Prefixed c t = before c t lt s h.utf8 in
       let p : Passed (c ∷ chars t) ts = takes_passed (chars t) (c ∷ chars t) ts h.rest (passed c (chars t) b) h.takes h.ended in
       record {
         utf8 = w.utf8;
@@ -118,7 +118,7 @@ one_mark : (c : ℕ) → c < 128 → scalars (c ∷ []) ≡ true → (is_ascii_a
     → not (is_ascii_alphanumeric c || c == 95 || c == 36) ≡ true → {a : Bool} → Reads a false (c ∷ []) (λ ts. mark_token (c ∷ []) ∷ ts)
 one_mark c lt s n b sl m g {a} = record {
   on = λ t ts h.
-      let w : Before c t = before c t lt s h.utf8 in
+      let w : Prefixed c t = before c t lt s h.utf8 in
       let k : Takes (c ∷ chars t) (mark_token (c ∷ []) ∷ ts) h.rest = (Mark (c ∷ []), c ∷ chars t, chars t, marked c (chars t) lt n b sl m, ap mark_token (encodes_one c lt), h.takes) in
       record {
         utf8 = w.utf8;
@@ -191,8 +191,8 @@ pub arrow : {a : Bool} → Reads a false (codes "->") (λ ts. Arrow ∷ ts)
 unfolding mark_token encode
 arrow {a} = record {
   on = λ t ts h.
-      let v : Before 62 t = before 62 t (lit< tt) refl h.utf8 in
-      let w : Before 45 (62 ∷ t) = before 45 (62 ∷ t) (lit< tt) refl v.utf8 in
+      let v : Prefixed 62 t = before 62 t (lit< tt) refl h.utf8 in
+      let w : Prefixed 45 (62 ∷ t) = before 45 (62 ∷ t) (lit< tt) refl v.utf8 in
       let cs : chars (45 ∷ (62 ∷ t)) ≡ 45 ∷ (62 ∷ chars t) = w.characters ∙ ap (λ x. 45 ∷ x) v.characters in
       let k : Takes (45 ∷ (62 ∷ chars t)) (Arrow ∷ ts) h.rest = (Mark (45 ∷ (62 ∷ [])), 45 ∷ (62 ∷ chars t), chars t, is_arrow (chars t), refl, h.takes) in
       record {
@@ -208,9 +208,9 @@ pub double_arrow : {a : Bool} → Reads a false (codes "<->") (λ ts. DoubleArro
 unfolding mark_token encode
 double_arrow {a} = record {
   on = λ t ts h.
-      let u : Before 62 t = before 62 t (lit< tt) refl h.utf8 in
-      let v : Before 45 (62 ∷ t) = before 45 (62 ∷ t) (lit< tt) refl u.utf8 in
-      let w : Before 60 (45 ∷ (62 ∷ t)) = before 60 (45 ∷ (62 ∷ t)) (lit< tt) refl v.utf8 in
+      let u : Prefixed 62 t = before 62 t (lit< tt) refl h.utf8 in
+      let v : Prefixed 45 (62 ∷ t) = before 45 (62 ∷ t) (lit< tt) refl u.utf8 in
+      let w : Prefixed 60 (45 ∷ (62 ∷ t)) = before 60 (45 ∷ (62 ∷ t)) (lit< tt) refl v.utf8 in
       let cs : chars (60 ∷ (45 ∷ (62 ∷ t))) ≡ 60 ∷ (45 ∷ (62 ∷ chars t)) = w.characters ∙ ap (λ x. 60 ∷ x) (v.characters ∙ ap (λ x. 45 ∷ x) u.characters) in
       let k : Takes (60 ∷ (45 ∷ (62 ∷ chars t))) (DoubleArrow ∷ ts) h.rest = (Mark (60 ∷ (45 ∷ (62 ∷ []))), 60 ∷ (45 ∷ (62 ∷ chars t)), chars t, is_double (chars t), refl, h.takes) in
       record {

@@ -1,10 +1,11 @@
 -- The laws of the machine: it reads the texts of its language and no others, and each state can be completed.
+use lib.Utf8.{encode}
 use Rattle.std.proofs.Common.{◌≡◌, ℕ, Bool, true, false, ◌&&◌, ◌||◌, if◌then◌else◌, List, [], ◌∷◌, ◌++◌, bit_or, codes, Option, Some, None, refl, sym, ◌∙◌, ap, subst}
 use Rattle.std.proofs.lemmas.Option.{none-some}
-use Rattle.std.specs.Str.{chars, bytes_eq}
+use Rattle.std.specs.Str.{chars, bytes_eq, is_utf8}
 use Rattle.cfj_model.specs.Names.{is_identifier, is_reserved}
 use Rattle.cfj_model.proofs.Identifiers.{features_is_identifier}
-use Rattle.fj_parser.proofs.Words.{constraint_is_identifier}
+use Rattle.cfj_model.proofs.Identifiers.{constraint_is_identifier}
 use Rattle.cfj_model.specs.Tokens.{Token, Id, TrueWord, FalseWord, Bang, Ampersand, Bar, Arrow, DoubleArrow, ClassWord, ExtendsWord, SuperWord, ThisWord, OpenBrace, CloseBrace, OpenParen, CloseParen, Semicolon, Comma, Dot, Equals, At, End}
 use Rattle.cfj_model.specs.declared.formula.Formula.{Formula}
 use Rattle.cfj_model.specs.FormulaGrammar.{IffTree}
@@ -264,7 +265,7 @@ some_name = codes "$"
 
 -- it is one, whatever Unicode says of other characters
 some_name_is : is_identifier some_name ≡ true
-unfolding is_identifier is_reserved some_name chars
+unfolding is_identifier is_reserved is_utf8 some_name chars encode
 some_name_is = search last_holds
 
 -- Where the name of an assigned field has been read, it is an identifier.

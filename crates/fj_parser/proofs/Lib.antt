@@ -14,4 +14,3 @@ pub mod Spelled
 pub mod Texts
 pub mod TextsKept
 pub mod TokenReads
-pub mod Words

@@ -2,9 +2,10 @@
 use Rattle.std.proofs.Common.{◌≡◌, ℕ, ◌<◌, ◌≤◌, ◌+◌, ◌==◌, Bool, true, false, cond, List, [], ◌∷◌, ◌++◌, length, refl, sym, ap, subst, ◌∙◌, codes, encode_utf8_all, bytes_eq, chars, IsUtf8, arith, length-append}
 use Rattle.std.specs.List.{list_all}
 use Rattle.std.specs.Str.{all_scalars}
-use Rattle.std.proofs.lemmas.Bool.{cond_both, and_parts, and_from, not_from_false}
-use Rattle.std.proofs.lemmas.Str.{chars-encodes, scalars-chars}
-use Rattle.cfj_model.specs.Names.{starts_word, continues_word, is_word, is_reserved, is_identifier}
+use Rattle.std.proofs.lemmas.Bool.{cond_both, and_parts, and_from}
+use Rattle.std.proofs.lemmas.Str.{scalars-chars}
+use Rattle.cfj_model.proofs.Identifiers.{word_is_identifier}
+use Rattle.cfj_model.specs.Names.{starts_word, continues_word, is_word, is_reserved}
 use Rattle.cfj_model.specs.Lexemes.{is_blank, is_line_end, Between, blanks, slash, line, block, star, Skipped, Reached, Unclosed, skipped, word_run, word_rest, Lexeme, Lexed, Found, AtEnd, NoToken, NoClose, is_single_mark, after_dash, after_less_dash, after_less, lexeme_at, after_blanks, next_lexeme}
 use Rattle.cfj_model.specs.Tokens.{Token, word_token, mark_token, token_of, Takes}
 use Rattle.fj_symbols.specs.Views.{is_read, are_read}
@@ -118,8 +119,8 @@ plainly p = record { is = p }
 
 -- A word's token is read: where it is an identifier, its text is a word that isn't reserved.
 word_read : (cs : List ℕ) → all_scalars cs ≡ true → is_word cs ≡ true → IsToken (word_token (encode_utf8_all cs))
-unfolding word_token is_identifier
-word_read cs h w = either (bytes_eq (encode_utf8_all cs) (codes "class")) (plainly refl) (λ e. either (bytes_eq (encode_utf8_all cs) (codes "extends")) (plainly refl) (λ e. either (bytes_eq (encode_utf8_all cs) (codes "super")) (plainly refl) (λ e. either (bytes_eq (encode_utf8_all cs) (codes "this")) (plainly refl) (λ e. either (bytes_eq (encode_utf8_all cs) (codes "new")) (plainly refl) (λ e. either (bytes_eq (encode_utf8_all cs) (codes "return")) (plainly refl) (λ e. either (bytes_eq (encode_utf8_all cs) (codes "true")) (plainly refl) (λ e. either (bytes_eq (encode_utf8_all cs) (codes "false")) (plainly refl) (λ e. either (is_reserved (encode_utf8_all cs)) (plainly refl) (λ e. plainly (and_from _ _ (subst (λ x. is_word x ≡ true) (sym (chars-encodes cs h)) w) (not_from_false _ e)))))))))))
+unfolding word_token
+word_read cs h w = either (bytes_eq (encode_utf8_all cs) (codes "class")) (plainly refl) (λ e. either (bytes_eq (encode_utf8_all cs) (codes "extends")) (plainly refl) (λ e. either (bytes_eq (encode_utf8_all cs) (codes "super")) (plainly refl) (λ e. either (bytes_eq (encode_utf8_all cs) (codes "this")) (plainly refl) (λ e. either (bytes_eq (encode_utf8_all cs) (codes "new")) (plainly refl) (λ e. either (bytes_eq (encode_utf8_all cs) (codes "return")) (plainly refl) (λ e. either (bytes_eq (encode_utf8_all cs) (codes "true")) (plainly refl) (λ e. either (bytes_eq (encode_utf8_all cs) (codes "false")) (plainly refl) (λ e. either (is_reserved (encode_utf8_all cs)) (plainly refl) (λ e. plainly (word_is_identifier cs h w e))))))))))
 
 mark_read : (m : List ℕ) → IsToken (mark_token m)
 unfolding mark_token

@@ -6,7 +6,6 @@ pub mod FirstFault
 pub mod Kept
 pub mod Law
 pub mod LexedTokens
-pub mod MetNames
 pub mod Progress
 pub mod Readers
 pub mod Sound

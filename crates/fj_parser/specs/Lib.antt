@@ -7,4 +7,3 @@ pub mod Machine
 pub mod MachineViews
 pub mod Reading
 pub mod Readers
-pub mod Views

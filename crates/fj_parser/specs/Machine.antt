@@ -4,28 +4,39 @@ use Rattle.std.specs.Str.{bytes_eq}
 use Rattle.cfj_model.specs.declared.class.Field.{Field}
 use Rattle.cfj_model.specs.declared.class.Param.{Param}
 use Rattle.cfj_model.specs.declared.class.Sent.{Sent}
+use Rattle.cfj_model.specs.declared.class.Constructor.{Constructor}
+use Rattle.cfj_model.specs.declared.class.Method.{Method}
 use Rattle.cfj_model.specs.declared.class.Class.{Class}
+use Rattle.cfj_model.specs.declared.expr.Expr.{Expr}
 use Rattle.cfj_model.specs.declared.formula.Formula.{Formula}
 use Rattle.cfj_model.specs.Grammar.{constraint_word, features_word}
 use Rattle.cfj_model.specs.ProductLines.{ProductLine}
 use Rattle.cfj_model.specs.Marks.{color_of}
-use Rattle.cfj_model.specs.Tokens.{Token, Id, ClassWord, ExtendsWord, SuperWord, ThisWord, OpenBrace, CloseBrace, OpenParen, CloseParen, Semicolon, Comma, Dot, Equals, At, End}
-use Rattle.cfj_model.specs.Roles.{Role, feature_name, mark_name, class_name, field_name, param_name, sent_name, assigned_name, used_name, plain}
+use Rattle.cfj_model.specs.Tokens.{Token, Id, ClassWord, ExtendsWord, SuperWord, ThisWord, ReturnWord, OpenBrace, CloseBrace, OpenParen, CloseParen, Semicolon, Comma, Dot, Equals, At, End}
+use Rattle.cfj_model.specs.Roles.{Role, feature_name, mark_name, class_name, field_name, method_name, param_name, method_param_name, sent_name, assigned_name, used_name, plain}
 use Rattle.formula_reader.specs.Machine as formula
+use Rattle.expression_reader.specs.Machine as expression
 use Rattle.fj_parser.specs.Readers.{Reader, Run, run_of}
 use Rattle.fj_parser.specs.Reading.{of_parts}
+use Rattle.fj_parser.specs.declared.mode.Owner.{Owner}
+use Rattle.fj_parser.specs.declared.mode.Owner.TheVariants as owner
 use Rattle.fj_parser.specs.declared.mode.Node.{Node}
 use Rattle.fj_parser.specs.declared.mode.Node.TheVariants as node
 use Rattle.fj_parser.specs.declared.mode.Mode.{Mode}
-use Rattle.fj_parser.specs.declared.mode.Mode.TheVariants.{Begin, AfterFeatures, AfterFeature, AfterFeatureComma, Start, InConstraint, BetweenClasses, AfterAt, AfterMark, AfterMarkedType, AfterClass, AfterClassName, AfterExtends, AfterParent, InMembers, AfterType, AfterFieldName, InParams, AfterParamComma, AfterParamType, AfterParam, AfterParams, InBody, AfterSuper, InSends, AfterSendComma, AfterSend, AfterSends, InAssigns, AfterThis, AfterThisDot, AfterAssigned, AfterEquals, AfterSecondName, AfterCtor, AtEnd}
+use Rattle.fj_parser.specs.declared.mode.Mode.TheVariants.{Begin, AfterFeatures, AfterFeature, AfterFeatureComma, Start, InConstraint, BetweenClasses, AfterAt, AfterMark, AfterMarkedType, AfterClass, AfterClassName, AfterExtends, AfterParent, InMembers, AfterType, AfterFieldName, InParams, AfterParamComma, AfterParamType, AfterParam, AfterParams, InBody, AfterSuper, InSends, AfterSendComma, AfterSend, AfterSends, InAssigns, AfterThis, AfterThisDot, AfterAssigned, AfterEquals, AfterSecondName, InMethods, AfterResult, AfterMethodName, InMethodBody, InExpression, AfterBody, AtEnd}
 
 -- what stands for a name that isn't in hand
 abbrev pub unnamed : List ℕ
 unnamed = codes "this"
 
--- The features, constraints and classes that are read, the formula in hand, the class in hand with its colours, the colours of
--- the marks in hand, the type and the name that were read last, and the mode. A list or a set that isn't in hand is empty, a name
--- is `unnamed`, and a formula is before its first token.
+-- the constructor of a class that isn't in hand
+abbrev pub no_ctor : Constructor
+no_ctor = record { params = []; sends = []; assigns = [] }
+
+-- The features, constraints and classes that are read, the formula in hand, the class in hand with its colours, the lists in hand of
+-- its constructor or of a method, the constructor that is read, the method in hand with its colours and the expression in hand, the
+-- colours of the marks in hand, the type and the name that were read last, and the mode. A list or a set that isn't in hand is
+-- empty, a name is `unnamed`, and a formula or an expression is before its first token.
 pub record State : Type 0 where
   pub mode : Mode
   pub features : List (List ℕ)
@@ -39,6 +50,12 @@ pub record State : Type 0 where
   pub params : List Param
   pub sends : List Sent
   pub assigns : List Sent
+  pub ctor : Constructor
+  pub methods : List Method
+  pub method_colors : ℕ
+  pub result_type : List ℕ
+  pub method : List ℕ
+  pub expression : expression.State
   pub colors : ℕ
   pub of : List ℕ
   pub last : List ℕ
@@ -59,6 +76,12 @@ behind features constraints classes =
       params = [];
       sends = [];
       assigns = [];
+      ctor = no_ctor;
+      methods = [];
+      method_colors = 0;
+      result_type = unnamed;
+      method = unnamed;
+      expression = expression.start;
       colors = 0;
       of = unnamed;
       last = unnamed;
@@ -95,8 +118,8 @@ abbrev pub with_field : State → State
 with_field s = record s { mode = InMembers; fields = s.fields ++ field_of s ∷ []; colors = 0; of = unnamed; last = unnamed }
 
 -- a parameter of the type in hand
-abbrev pub with_param : State → List ℕ → State
-with_param s w = record s { mode = AfterParam; params = s.params ++ record { slot = length s.params; colors = s.colors; of = s.of; name = w } ∷ []; colors = 0; of = unnamed }
+abbrev pub with_param : Owner → State → List ℕ → State
+with_param o s w = record s { mode = AfterParam o; params = s.params ++ record { slot = length s.params; colors = s.colors; of = s.of; name = w } ∷ []; colors = 0; of = unnamed }
 
 abbrev pub with_sent : State → List ℕ → State
 with_sent s w = record s { mode = AfterSend; sends = s.sends ++ record { slot = length s.sends; colors = s.colors; name = w } ∷ []; colors = 0 }
@@ -104,13 +127,28 @@ with_sent s w = record s { mode = AfterSend; sends = s.sends ++ record { slot = 
 abbrev pub with_assign : State → List ℕ → State
 with_assign s w = record s { mode = AfterAssigned; assigns = s.assigns ++ record { slot = length s.assigns; colors = s.colors; name = w } ∷ []; colors = 0; last = w }
 
+-- the constructor in hand is whole
+abbrev pub with_ctor : State → State
+with_ctor s = record s { mode = InMethods; ctor = record { params = s.params; sends = s.sends; assigns = s.assigns }; params = []; sends = []; assigns = [] }
+
+-- the head of a method: the marks and the type in hand are the method's
+abbrev pub with_head : State → List ℕ → State
+with_head s w = record s { mode = AfterMethodName; method_colors = s.colors; result_type = s.of; method = w; colors = 0; of = unnamed }
+
+-- the method in hand, with this body
+abbrev pub method_of : State → Expr → Method
+method_of s x = record { alt = 0; colors = s.method_colors; result = s.result_type; name = s.method; params = s.params; body = x }
+
+abbrev pub with_method : State → Expr → State
+with_method s x = record s { mode = AfterBody; methods = s.methods ++ method_of s x ∷ []; params = []; method_colors = 0; result_type = unnamed; method = unnamed; expression = expression.start }
+
 -- the class in hand
 abbrev pub class_of : State → Class
-class_of s = record { name = s.name; colors = s.class_colors; parent = s.parent; fields = s.fields; ctor = record { params = s.params; sends = s.sends; assigns = s.assigns }; methods = [] }
+class_of s = record { name = s.name; colors = s.class_colors; parent = s.parent; fields = s.fields; ctor = s.ctor; methods = s.methods }
 
 -- the class in hand is whole
 abbrev pub with_class : State → State
-with_class s = record (behind s.features s.constraints (s.classes ++ class_of s ∷ [])) { formula = s.formula }
+with_class s = record (behind s.features s.constraints (s.classes ++ class_of s ∷ [])) { formula = s.formula; expression = s.expression }
 
 -- a formula that is read so far, or whole
 abbrev pub after_formula : State → formula.State → Option Formula → State
@@ -120,6 +158,15 @@ after_formula s f (Some x) = record s { mode = Start; constraints = s.constraint
 abbrev pub in_formula : State → Option formula.State → Option State
 in_formula s None = None
 in_formula s (Some f) = Some (after_formula s f (formula.formula_of f))
+
+-- an expression that is read so far, or whole
+abbrev pub after_expression : State → expression.State → Option Expr → State
+after_expression s n None = record s { expression = n }
+after_expression s n (Some x) = with_method s x
+
+abbrev pub in_expression : State → Option expression.State → Option State
+in_expression s None = None
+in_expression s (Some n) = Some (after_expression s n (expression.expression n))
 
 -- a word that begins a constraint
 abbrev pub opens_constraint : State → List ℕ → Option State
@@ -147,8 +194,10 @@ step_in (AfterMark node.Class) s At = to (AfterAt node.Class) s
 step_in (AfterMark node.Class) s ClassWord = Some (with_class_colors s)
 step_in (AfterMark node.Member) s At = to (AfterAt node.Member) s
 step_in (AfterMark node.Member) s (Id w) = Some (record s { mode = AfterMarkedType; of = w })
-step_in (AfterMark node.Param) s At = to (AfterAt node.Param) s
-step_in (AfterMark node.Param) s (Id w) = Some (record s { mode = AfterParamType; of = w })
+step_in (AfterMark node.Method) s At = to (AfterAt node.Method) s
+step_in (AfterMark node.Method) s (Id w) = Some (record s { mode = AfterResult; of = w })
+step_in (AfterMark (node.Param o)) s At = to (AfterAt (node.Param o)) s
+step_in (AfterMark (node.Param o)) s (Id w) = Some (record s { mode = AfterParamType o; of = w })
 step_in (AfterMark node.Send) s At = to (AfterAt node.Send) s
 step_in (AfterMark node.Send) s (Id w) = Some (with_sent s w)
 step_in (AfterMark node.Assign) s At = to (AfterAt node.Assign) s
@@ -160,18 +209,19 @@ step_in AfterParent s OpenBrace = to InMembers s
 step_in InMembers s At = to (AfterAt node.Member) s
 step_in InMembers s (Id w) = Some (record s { mode = AfterType; of = w })
 step_in AfterType s (Id w) = Some (record s { mode = AfterFieldName; last = w })
-step_in AfterType s OpenParen = if bytes_eq s.of s.name then Some (record s { mode = InParams; of = unnamed }) else None
+step_in AfterType s OpenParen = if bytes_eq s.of s.name then Some (record s { mode = InParams owner.Constructor; of = unnamed }) else None
 step_in AfterMarkedType s (Id w) = Some (record s { mode = AfterFieldName; last = w })
 step_in AfterFieldName s Semicolon = Some (with_field s)
-step_in InParams s At = to (AfterAt node.Param) s
-step_in InParams s (Id w) = Some (record s { mode = AfterParamType; of = w })
-step_in InParams s CloseParen = to AfterParams s
-step_in AfterParamComma s At = to (AfterAt node.Param) s
-step_in AfterParamComma s (Id w) = Some (record s { mode = AfterParamType; of = w })
-step_in AfterParamType s (Id w) = Some (with_param s w)
-step_in AfterParam s Comma = to AfterParamComma s
-step_in AfterParam s CloseParen = to AfterParams s
-step_in AfterParams s OpenBrace = to InBody s
+step_in (InParams o) s At = to (AfterAt (node.Param o)) s
+step_in (InParams o) s (Id w) = Some (record s { mode = AfterParamType o; of = w })
+step_in (InParams o) s CloseParen = to (AfterParams o) s
+step_in (AfterParamComma o) s At = to (AfterAt (node.Param o)) s
+step_in (AfterParamComma o) s (Id w) = Some (record s { mode = AfterParamType o; of = w })
+step_in (AfterParamType o) s (Id w) = Some (with_param o s w)
+step_in (AfterParam o) s Comma = to (AfterParamComma o) s
+step_in (AfterParam o) s CloseParen = to (AfterParams o) s
+step_in (AfterParams owner.Constructor) s OpenBrace = to InBody s
+step_in (AfterParams owner.Method) s OpenBrace = to InMethodBody s
 step_in InBody s SuperWord = to AfterSuper s
 step_in AfterSuper s OpenParen = to InSends s
 step_in InSends s At = to (AfterAt node.Send) s
@@ -184,13 +234,20 @@ step_in AfterSend s CloseParen = to AfterSends s
 step_in AfterSends s Semicolon = to InAssigns s
 step_in InAssigns s At = to (AfterAt node.Assign) s
 step_in InAssigns s ThisWord = to AfterThis s
-step_in InAssigns s CloseBrace = to AfterCtor s
+step_in InAssigns s CloseBrace = Some (with_ctor s)
 step_in AfterThis s Dot = to AfterThisDot s
 step_in AfterThisDot s (Id w) = Some (with_assign s w)
 step_in AfterAssigned s Equals = to AfterEquals s
 step_in AfterEquals s (Id w) = if bytes_eq w s.last then Some (record s { mode = AfterSecondName; last = unnamed }) else None
 step_in AfterSecondName s Semicolon = to InAssigns s
-step_in AfterCtor s CloseBrace = Some (with_class s)
+step_in InMethods s At = to (AfterAt node.Method) s
+step_in InMethods s (Id w) = Some (record s { mode = AfterResult; of = w })
+step_in InMethods s CloseBrace = Some (with_class s)
+step_in AfterResult s (Id w) = Some (with_head s w)
+step_in AfterMethodName s OpenParen = to (InParams owner.Method) s
+step_in InMethodBody s ReturnWord = to InExpression s
+step_in InExpression s t = in_expression s (expression.step s.features s.expression t)
+step_in AfterBody s CloseBrace = to InMethods s
 step_in _ s t = None
 
 -- what a state stands for
@@ -209,11 +266,13 @@ name_role (AfterAt n) w = mark_name w
 name_role AfterClass w = class_name w
 name_role AfterType w = field_name w
 name_role AfterMarkedType w = field_name w
-name_role AfterParamType w = param_name w
+name_role (AfterParamType owner.Constructor) w = param_name w
+name_role (AfterParamType owner.Method) w = method_param_name w
 name_role InSends w = sent_name w
 name_role AfterSendComma w = sent_name w
 name_role (AfterMark node.Send) w = sent_name w
 name_role AfterThisDot w = assigned_name w
+name_role AfterResult w = method_name w
 name_role _ w = used_name w
 
 -- what a token is behind what was read last
@@ -223,13 +282,14 @@ token_role m _ = plain
 
 abbrev pub role_in : Mode → State → Token → Role
 role_in InConstraint s t = formula.role s.formula t
+role_in InExpression s t = expression.role s.expression t
 role_in m s t = token_role m t
 
--- the role of a token at this state
+-- the role of a token at this state; where it waits, that of a bracket's
 abbrev pub role : State → Token → Role
 role s t = role_in s.mode s t
 
--- some identifier could stand next, outside of a formula
+-- some identifier could stand next, outside of formulas and expressions
 abbrev pub takes_name : Mode → Bool
 takes_name Begin = true
 takes_name Start = true
@@ -237,32 +297,45 @@ takes_name AfterFeatures = true
 takes_name AfterFeatureComma = true
 takes_name (AfterAt n) = true
 takes_name (AfterMark node.Member) = true
-takes_name (AfterMark node.Param) = true
+takes_name (AfterMark node.Method) = true
+takes_name (AfterMark (node.Param o)) = true
 takes_name (AfterMark node.Send) = true
 takes_name AfterMarkedType = true
 takes_name AfterClass = true
 takes_name AfterExtends = true
 takes_name InMembers = true
 takes_name AfterType = true
-takes_name InParams = true
-takes_name AfterParamComma = true
-takes_name AfterParamType = true
+takes_name (InParams o) = true
+takes_name (AfterParamComma o) = true
+takes_name (AfterParamType o) = true
 takes_name InSends = true
 takes_name AfterSendComma = true
 takes_name AfterThisDot = true
 takes_name AfterEquals = true
+takes_name InMethods = true
+takes_name AfterResult = true
 takes_name _ = false
 
 abbrev pub takes_name_in : Mode → State → Bool
 takes_name_in InConstraint s = formula.takes_name s.formula
+takes_name_in InExpression s = expression.takes_name s.expression
 takes_name_in m s = takes_name m
 
--- each token's role is settled by the token itself
+-- The roles that a token settles, in the order of their tokens: outside of an expression its own.
+abbrev pub emitted_in : Mode → State → Token → List Role
+emitted_in InExpression s t = expression.emitted s.expression t
+emitted_in m s t = role_in m s t ∷ []
+
 abbrev pub emitted : State → Token → List Role
-emitted s t = role s t ∷ []
+emitted s t = emitted_in s.mode s t
+
+-- the roles of the tokens that wait, as a bracket's
+abbrev pub pending_in : Mode → State → List Role
+pending_in InExpression s = expression.pending s.expression
+pending_in m s = []
 
 abbrev pub pending : State → List Role
-pending s = []
+pending s = pending_in s.mode s
 
 -- the machine as a reader
 abbrev pub reader : Reader

@@ -3,11 +3,11 @@ ghost use Rattle.fj_parser.specs.Accepting.{Outcome};
 ghost use Rattle.fj_parser.specs.Machine.{reader, step};
 ghost use Rattle.fj_parser.specs.MachineViews.{machine_seen, IsRoomy};
 ghost use Rattle.fj_parser.specs.Readers.{misplaced_as};
-ghost use Rattle.fj_parser.specs.Views.{tally_seen};
+ghost use Rattle.fj_tally.specs.Views.{tally_seen};
 ghost use Rattle.fj_symbols.specs.Views.{is_read, symbol_seen};
 
 use crate::machine::Machine;
-use crate::tally::Tally;
+use fj_tally::Tally;
 use cfj_model::FaultKind;
 use fj_symbols::Symbol;
 use std::alloc::{AllocError, Global};

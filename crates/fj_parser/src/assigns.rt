@@ -7,13 +7,14 @@ ghost use Rattle.fj_symbols.specs.Views.{symbol_seen, is_name_token};
 
 use crate::machine::{Machine, NO_NAME};
 use crate::mode::{Mode, Node};
-use cfj_model::{Colors, Sent};
+use cfj_model::{Colors, Constructor, Items, Sent};
 use fj_symbols::{Symbol, name_of};
 use std::alloc::{AllocError, Global};
+use std::mem;
 
 /// The assignments of a constructor.
 impl<'a> Machine<'a> {
-    pub(crate) fn in_assigns(&mut self, symbol: Symbol<'a>) -> bool
+    pub(crate) fn in_assigns(&mut self, alloc: Global, symbol: Symbol<'a>) -> bool
         ensures { GoesIn Mode.InAssigns result (machine_seen self.old) (symbol_seen symbol.entry) (machine_seen self.new) }
     {
         match symbol {
@@ -26,11 +27,26 @@ impl<'a> Machine<'a> {
                 true
             }
             Symbol::CloseBrace => {
-                self.mode = Mode::AfterCtor;
+                self.close_ctor(alloc);
                 true
             }
             _ => false,
         }
+    }
+
+    /// The constructor in hand is whole.
+    fn close_ctor(&mut self, alloc: Global)
+        ensures { machine_seen self.new ≡ spec.with_ctor (machine_seen self.old) }
+    {
+        let params = mem::replace(&mut self.params, Vec::new(alloc));
+        let sends = mem::replace(&mut self.sends, Vec::new(alloc));
+        let assigns = mem::replace(&mut self.assigns, Vec::new(alloc));
+        self.ctor = Constructor {
+            params: Items::of(params),
+            sends: Items::of(sends),
+            assigns: Items::of(assigns),
+        };
+        self.mode = Mode::InMethods;
     }
 
     pub(crate) fn after_mark_assign(&mut self, symbol: Symbol<'a>) -> bool

@@ -4,137 +4,14 @@ ghost use Rattle.fj_parser.specs.Machine as spec;
 ghost use Rattle.fj_parser.specs.MachineViews.{machine_seen, GoesIn};
 ghost use Rattle.fj_symbols.specs.Views.{symbol_seen, is_name_token};
 
-use crate::machine::{Machine, NO_NAME};
+use crate::machine::Machine;
 use crate::mode::{Mode, Node};
-use cfj_model::{Colors, Param, Sent};
+use cfj_model::{Colors, Sent};
 use fj_symbols::{Symbol, name_of};
 use std::alloc::{AllocError, Global};
 
-/// The parameters of a constructor, and what it sends.
+/// What a constructor sends.
 impl<'a> Machine<'a> {
-    pub(crate) fn in_params(&mut self, symbol: Symbol<'a>) -> bool
-        requires { is_name_token (symbol_seen symbol) ≡ true }
-        ensures { GoesIn Mode.InParams result (machine_seen self.old) (symbol_seen symbol.entry) (machine_seen self.new) }
-    {
-        match symbol {
-            Symbol::At => {
-                self.mode = Mode::AfterAt(Node::Param);
-                true
-            }
-            Symbol::Id(of) => {
-                self.of = of;
-                self.mode = Mode::AfterParamType;
-                true
-            }
-            Symbol::CloseParen => {
-                self.mode = Mode::AfterParams;
-                true
-            }
-            _ => false,
-        }
-    }
-
-    pub(crate) fn after_mark_param(&mut self, symbol: Symbol<'a>) -> bool
-        requires { is_name_token (symbol_seen symbol) ≡ true }
-        ensures { GoesIn (Mode.AfterMark Node.Param) result (machine_seen self.old) (symbol_seen symbol.entry) (machine_seen self.new) }
-    {
-        match symbol {
-            Symbol::At => {
-                self.mode = Mode::AfterAt(Node::Param);
-                true
-            }
-            Symbol::Id(of) => {
-                self.of = of;
-                self.mode = Mode::AfterParamType;
-                true
-            }
-            _ => false,
-        }
-    }
-
-    pub(crate) fn after_param_comma(&mut self, symbol: Symbol<'a>) -> bool
-        requires { is_name_token (symbol_seen symbol) ≡ true }
-        ensures { GoesIn Mode.AfterParamComma result (machine_seen self.old) (symbol_seen symbol.entry) (machine_seen self.new) }
-    {
-        match symbol {
-            Symbol::At => {
-                self.mode = Mode::AfterAt(Node::Param);
-                true
-            }
-            Symbol::Id(of) => {
-                self.of = of;
-                self.mode = Mode::AfterParamType;
-                true
-            }
-            _ => false,
-        }
-    }
-
-    pub(crate) fn after_param_type(
-        &mut self,
-        alloc: Global,
-        symbol: Symbol<'a>,
-    ) -> Result<bool, AllocError>
-        requires named { is_name_token (symbol_seen symbol) ≡ true }
-        requires room { length self.old.params.items < 2 ^ 16 }
-        ensures { IfOk result (λ goes. GoesIn Mode.AfterParamType goes (machine_seen self.old) (symbol_seen symbol.entry) (machine_seen self.new)) }
-    {
-        match symbol {
-            Symbol::Id(name) => {
-                self.push_param(alloc, name)?;
-                Ok(true)
-            }
-            _ => Ok(false),
-        }
-    }
-
-    fn push_param(&mut self, alloc: Global, name: &str) -> Result<(), AllocError>
-        requires named { is_name name.now ≡ true }
-        requires room { length self.old.params.items < 2 ^ 16 }
-        ensures { OnOk result (machine_seen self.new ≡ spec.with_param (machine_seen self.old) name.now) }
-    {
-        let of = name_of(alloc, self.of)?;
-        let name = name_of(alloc, name)?;
-        self.params.push(Param {
-            slot: self.params.len() as u16,
-            colors: self.colors,
-            of,
-            name,
-        })?;
-        self.colors = Colors::empty();
-        self.of = NO_NAME;
-        self.mode = Mode::AfterParam;
-        Ok(())
-    }
-
-    pub(crate) fn after_param(&mut self, symbol: Symbol<'a>) -> bool
-        ensures { GoesIn Mode.AfterParam result (machine_seen self.old) (symbol_seen symbol.entry) (machine_seen self.new) }
-    {
-        match symbol {
-            Symbol::Comma => {
-                self.mode = Mode::AfterParamComma;
-                true
-            }
-            Symbol::CloseParen => {
-                self.mode = Mode::AfterParams;
-                true
-            }
-            _ => false,
-        }
-    }
-
-    pub(crate) fn after_params(&mut self, symbol: Symbol<'a>) -> bool
-        ensures { GoesIn Mode.AfterParams result (machine_seen self.old) (symbol_seen symbol.entry) (machine_seen self.new) }
-    {
-        match symbol {
-            Symbol::OpenBrace => {
-                self.mode = Mode::InBody;
-                true
-            }
-            _ => false,
-        }
-    }
-
     pub(crate) fn in_body(&mut self, symbol: Symbol<'a>) -> bool
         ensures { GoesIn Mode.InBody result (machine_seen self.old) (symbol_seen symbol.entry) (machine_seen self.new) }
     {

@@ -6,17 +6,15 @@
 #![tactic(auto)]
 
 mod accept;
-mod adds;
 mod assigns;
 mod ctors;
 mod heads;
 mod machine;
 mod members;
-mod met;
+mod methods;
 mod mode;
+mod params;
 mod parser;
 mod role;
-mod rules;
-mod tally;
 
 pub use parser::parse_project;

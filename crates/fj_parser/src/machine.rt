@@ -6,7 +6,10 @@ ghost use Rattle.fj_parser.specs.Machine as spec;
 use crate::heads::{CONSTRAINT_WORD, FEATURES_WORD};
 use crate::mode::{Mode, Node};
 use crate::role::role_of;
-use cfj_model::{Class, Colors, FeatureModel, Field, Formula, Items, Param, Sent};
+use cfj_model::{
+    Class, Colors, Constructor, FeatureModel, Field, Formula, Items, Method, Param, Sent,
+};
+use expression_reader::ExpressionReader;
 use fj_symbols::{Features, Role, Symbol};
 use formula_reader::FormulaReader;
 use std::alloc::{AllocError, Global};
@@ -14,8 +17,20 @@ use std::alloc::{AllocError, Global};
 /// What stands for a name that isn't in hand.
 pub(crate) const NO_NAME: &str = "this";
 
-/// The features, constraints and classes that are read, the formula in hand, the class in hand with its colours, the colours of
-/// the marks in hand, the type and the name that were read last, and what was read last.
+/// The constructor of a class that isn't in hand; no memory is taken.
+pub(crate) fn no_ctor(alloc: Global) -> Constructor
+    ensures { result ≡ spec.no_ctor }
+{
+    Constructor {
+        params: Items::of(Vec::new(alloc)),
+        sends: Items::of(Vec::new(alloc)),
+        assigns: Items::of(Vec::new(alloc)),
+    }
+}
+
+/// The features, constraints and classes that are read, the formula in hand, the class in hand with its colours, the lists in
+/// hand of its constructor or of a method, the constructor that is read, the method in hand with its colours and the
+/// expression in hand, the colours of the marks in hand, the type and the name that were read last, and what was read last.
 #[derive(Drop)]
 pub struct Machine<'a> {
     pub mode: Mode,
@@ -30,19 +45,27 @@ pub struct Machine<'a> {
     pub params: Vec<Param>,
     pub sends: Vec<Sent>,
     pub assigns: Vec<Sent>,
+    pub ctor: Constructor,
+    pub methods: Vec<Method>,
+    pub method_colors: Colors,
+    pub result_type: &'a str,
+    pub method: &'a str,
+    pub expression: ExpressionReader,
     pub colors: Colors,
     pub of: &'a str,
     pub last: &'a str,
     ghost name_fits: { is_name name.now ≡ true },
     ghost parent_fits: { is_name parent.now ≡ true },
+    ghost result_fits: { is_name result_type.now ≡ true },
+    ghost method_fits: { is_name method.now ≡ true },
     ghost of_fits: { is_name of.now ≡ true },
     ghost last_fits: { is_name last.now ≡ true },
 }
 
 impl<'a> Machine<'a> {
     ghost use Rattle.fj_parser.specs.Reading.{of_parts};
-    ghost use Rattle.fj_parser.specs.MachineViews.{machine_seen, Goes, GoesIn, IsRoomy};
-    ghost use Rattle.fj_symbols.specs.Views.{is_name_token, role_seen, symbol_seen};
+    ghost use Rattle.fj_parser.specs.MachineViews.{machine_seen, names_fit_in, Goes, GoesIn, IsRoomy};
+    ghost use Rattle.fj_symbols.specs.Views.{is_name_token, is_read, role_seen, symbol_seen};
 
     /// Before the first token; no memory is taken.
     pub fn new(alloc: Global) -> Machine<'a>
@@ -61,6 +84,12 @@ impl<'a> Machine<'a> {
             params: Vec::new(alloc),
             sends: Vec::new(alloc),
             assigns: Vec::new(alloc),
+            ctor: no_ctor(alloc),
+            methods: Vec::new(alloc),
+            method_colors: Colors::empty(),
+            result_type: NO_NAME,
+            method: NO_NAME,
+            expression: ExpressionReader::new(alloc),
             colors: Colors::empty(),
             of: NO_NAME,
             last: NO_NAME,
@@ -84,6 +113,7 @@ impl<'a> Machine<'a> {
     {
         match self.mode {
             Mode::InConstraint => self.formula.role(symbol),
+            Mode::InExpression => self.expression.role(symbol),
             mode => role_of(mode, symbol),
         }
     }
@@ -94,6 +124,7 @@ impl<'a> Machine<'a> {
     {
         match self.mode {
             Mode::InConstraint => self.formula.takes_name(),
+            Mode::InExpression => self.expression.takes_name(),
             mode => mode.takes_name(),
         }
     }
@@ -106,6 +137,7 @@ impl<'a> Machine<'a> {
             Mode::Begin => name == FEATURES_WORD || name == CONSTRAINT_WORD,
             Mode::Start => name == CONSTRAINT_WORD,
             Mode::InConstraint => self.formula.takes_name(),
+            Mode::InExpression => self.expression.takes_name(),
             Mode::AfterEquals => name == self.last,
             mode => mode.takes_name(),
         }
@@ -113,7 +145,8 @@ impl<'a> Machine<'a> {
 
     /// Goes on by one token; `false` where no text of the grammar can.
     pub fn step(&mut self, alloc: Global, symbol: Symbol<'a>) -> Result<bool, AllocError>
-        requires named { is_name_token (symbol_seen symbol) ≡ true }
+        requires read { is_read (symbol_seen symbol) ≡ true }
+        requires named { names_fit_in self.old.mode (machine_seen self.old) (symbol_seen symbol) ≡ true }
         requires room { IsRoomy (machine_seen self.old) }
         ensures { IfOk result (λ goes. Goes goes (machine_seen self.old) (symbol_seen symbol.entry) (machine_seen self.new)) }
     {
@@ -135,24 +168,29 @@ impl<'a> Machine<'a> {
             Mode::InMembers => Ok(self.in_members(symbol)),
             Mode::AfterType => Ok(self.after_type(symbol)),
             Mode::AfterFieldName => self.after_field_name(alloc, symbol),
-            Mode::InParams => Ok(self.in_params(symbol)),
-            Mode::AfterParamComma => Ok(self.after_param_comma(symbol)),
-            Mode::AfterParamType => self.after_param_type(alloc, symbol),
-            Mode::AfterParam => Ok(self.after_param(symbol)),
-            Mode::AfterParams => Ok(self.after_params(symbol)),
+            Mode::InParams(owner) => Ok(self.in_params(owner, symbol)),
+            Mode::AfterParamComma(owner) => Ok(self.after_param_comma(owner, symbol)),
+            Mode::AfterParamType(owner) => self.after_param_type(alloc, owner, symbol),
+            Mode::AfterParam(owner) => Ok(self.after_param(owner, symbol)),
+            Mode::AfterParams(owner) => Ok(self.after_params(owner, symbol)),
             Mode::InBody => Ok(self.in_body(symbol)),
             Mode::AfterSuper => Ok(self.after_super(symbol)),
             Mode::InSends => self.in_sends(alloc, symbol),
             Mode::AfterSendComma => self.after_send_comma(alloc, symbol),
             Mode::AfterSend => Ok(self.after_send(symbol)),
             Mode::AfterSends => Ok(self.after_sends(symbol)),
-            Mode::InAssigns => Ok(self.in_assigns(symbol)),
+            Mode::InAssigns => Ok(self.in_assigns(alloc, symbol)),
             Mode::AfterThis => Ok(self.after_this(symbol)),
             Mode::AfterThisDot => self.after_this_dot(alloc, symbol),
             Mode::AfterAssigned => Ok(self.after_assigned(symbol)),
             Mode::AfterEquals => Ok(self.after_equals(symbol)),
             Mode::AfterSecondName => Ok(self.after_second_name(symbol)),
-            Mode::AfterCtor => self.after_ctor(alloc, symbol),
+            Mode::InMethods => self.in_methods(alloc, symbol),
+            Mode::AfterResult => Ok(self.after_result(symbol)),
+            Mode::AfterMethodName => Ok(self.after_method_name(symbol)),
+            Mode::InMethodBody => Ok(self.in_method_body(symbol)),
+            Mode::InExpression => self.in_expression(alloc, symbol),
+            Mode::AfterBody => Ok(self.after_body(symbol)),
             Mode::AtEnd => Ok(false),
         }
     }
@@ -170,7 +208,8 @@ impl<'a> Machine<'a> {
         match node {
             Node::Class => Ok(self.after_mark_class(symbol)),
             Node::Member => Ok(self.after_mark_member(symbol)),
-            Node::Param => Ok(self.after_mark_param(symbol)),
+            Node::Method => Ok(self.after_mark_method(symbol)),
+            Node::Param(owner) => Ok(self.after_mark_param(owner, symbol)),
             Node::Send => self.after_mark_send(alloc, symbol),
             Node::Assign => Ok(self.after_mark_assign(symbol)),
         }

@@ -4,9 +4,9 @@ ghost use Rattle.fj_parser.specs.Machine as spec;
 ghost use Rattle.fj_parser.specs.MachineViews.{machine_seen, GoesIn};
 ghost use Rattle.fj_symbols.specs.Views.{symbol_seen, is_name_token};
 
-use crate::machine::{Machine, NO_NAME};
-use crate::mode::{Mode, Node};
-use cfj_model::{Class, Colors, Constructor, Field, Items};
+use crate::machine::{Machine, NO_NAME, no_ctor};
+use crate::mode::{Mode, Node, Owner};
+use cfj_model::{Class, Colors, Field, Items};
 use fj_symbols::{Symbol, name_of};
 use std::alloc::{AllocError, Global};
 use std::mem;
@@ -87,7 +87,7 @@ impl<'a> Machine<'a> {
             return false;
         }
         self.of = NO_NAME;
-        self.mode = Mode::InParams;
+        self.mode = Mode::InParams(Owner::Constructor);
         true
     }
 
@@ -125,42 +125,21 @@ impl<'a> Machine<'a> {
         Ok(())
     }
 
-    pub(crate) fn after_ctor(
-        &mut self,
-        alloc: Global,
-        symbol: Symbol<'a>,
-    ) -> Result<bool, AllocError>
-        ensures { IfOk result (λ goes. GoesIn Mode.AfterCtor goes (machine_seen self.old) (symbol_seen symbol.entry) (machine_seen self.new)) }
-    {
-        match symbol {
-            Symbol::CloseBrace => {
-                self.push_class(alloc)?;
-                Ok(true)
-            }
-            _ => Ok(false),
-        }
-    }
-
-    fn push_class(&mut self, alloc: Global) -> Result<(), AllocError>
+    pub(crate) fn push_class(&mut self, alloc: Global) -> Result<(), AllocError>
         ensures { OnOk result (machine_seen self.new ≡ spec.with_class (machine_seen self.old)) }
     {
         let name = name_of(alloc, self.name)?;
         let parent = name_of(alloc, self.parent)?;
         let fields = mem::replace(&mut self.fields, Vec::new(alloc));
-        let params = mem::replace(&mut self.params, Vec::new(alloc));
-        let sends = mem::replace(&mut self.sends, Vec::new(alloc));
-        let assigns = mem::replace(&mut self.assigns, Vec::new(alloc));
+        let ctor = mem::replace(&mut self.ctor, no_ctor(alloc));
+        let methods = mem::replace(&mut self.methods, Vec::new(alloc));
         self.classes.push(Class {
             name,
             colors: self.class_colors,
             parent,
             fields: Items::of(fields),
-            ctor: Constructor {
-                params: Items::of(params),
-                sends: Items::of(sends),
-                assigns: Items::of(assigns),
-            },
-            methods: Items::of(Vec::new(alloc)),
+            ctor,
+            methods: Items::of(methods),
         })?;
         self.class_colors = Colors::empty();
         self.colors = Colors::empty();

@@ -1,6 +1,15 @@
 ghost use Rattle.std.specs.Prelude.{◌≡◌};
 ghost use Rattle.fj_parser.specs.Machine.{takes_name};
 
+/// What parameters belong to.
+#[derive(Clone, Copy, Debug, PartialEq, Eq)]
+pub enum Owner {
+    /// The constructor.
+    Constructor,
+    /// A method.
+    Method,
+}
+
 /// The nodes that marks may stand before.
 #[derive(Clone, Copy, Debug, PartialEq, Eq)]
 pub enum Node {
@@ -8,8 +17,10 @@ pub enum Node {
     Class,
     /// A field; behind its marks no constructor can stand.
     Member,
+    /// A method.
+    Method,
     /// A parameter.
-    Param,
+    Param(Owner),
     /// A sent name.
     Send,
     /// An assignment.
@@ -54,15 +65,15 @@ pub enum Mode {
     /// The name of a field.
     AfterFieldName,
     /// The bracket that opens the parameters.
-    InParams,
+    InParams(Owner),
     /// A comma between parameters.
-    AfterParamComma,
+    AfterParamComma(Owner),
     /// The type of a parameter.
-    AfterParamType,
+    AfterParamType(Owner),
     /// The name of a parameter.
-    AfterParam,
+    AfterParam(Owner),
     /// The bracket that closes the parameters.
-    AfterParams,
+    AfterParams(Owner),
     /// The brace that opens the constructor's body.
     InBody,
     /// `super`.
@@ -87,14 +98,24 @@ pub enum Mode {
     AfterEquals,
     /// The second name of an assignment.
     AfterSecondName,
-    /// The constructor.
-    AfterCtor,
+    /// The constructor, or a method.
+    InMethods,
+    /// The type of a method's result.
+    AfterResult,
+    /// The name of a method.
+    AfterMethodName,
+    /// The brace that opens a method's body.
+    InMethodBody,
+    /// `return`, or some of the expression behind it.
+    InExpression,
+    /// A method's body, with the semicolon behind it.
+    AfterBody,
     /// The whole text.
     AtEnd,
 }
 
 impl Mode {
-    /// Whether some identifier could stand next, outside of a formula.
+    /// Whether some identifier could stand next, outside of formulas and expressions.
     pub fn takes_name(self) -> bool
         ensures { result ≡ takes_name self }
     {
@@ -105,20 +126,23 @@ impl Mode {
             | Mode::AfterFeatureComma
             | Mode::AfterAt(_)
             | Mode::AfterMark(Node::Member)
-            | Mode::AfterMark(Node::Param)
+            | Mode::AfterMark(Node::Method)
+            | Mode::AfterMark(Node::Param(_))
             | Mode::AfterMark(Node::Send)
             | Mode::AfterMarkedType
             | Mode::AfterClass
             | Mode::AfterExtends
             | Mode::InMembers
             | Mode::AfterType
-            | Mode::InParams
-            | Mode::AfterParamComma
-            | Mode::AfterParamType
+            | Mode::InParams(_)
+            | Mode::AfterParamComma(_)
+            | Mode::AfterParamType(_)
             | Mode::InSends
             | Mode::AfterSendComma
             | Mode::AfterThisDot
-            | Mode::AfterEquals => true,
+            | Mode::AfterEquals
+            | Mode::InMethods
+            | Mode::AfterResult => true,
             _ => false,
         }
     }

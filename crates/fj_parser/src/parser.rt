@@ -9,12 +9,12 @@ ghost use Rattle.fj_parser.specs.Counting.{Counted};
 ghost use Rattle.fj_parser.specs.Machine.{reader, stands_for};
 ghost use Rattle.fj_parser.specs.MachineViews.{machine_seen, IsRoomy};
 ghost use Rattle.fj_parser.specs.Reading.{IsReading, fault_kind, fault_place, of_parts};
-ghost use Rattle.fj_parser.specs.Views.{tally_seen};
+ghost use Rattle.fj_tally.specs.Views.{tally_seen};
 ghost use Rattle.fj_symbols.specs.Views.{is_read, symbol_seen};
 
 use crate::accept::accept;
 use crate::machine::Machine;
-use crate::tally::Tally;
+use fj_tally::Tally;
 use cfj_model::{Class, FaultKind, FeatureModel, ParseFault, Project};
 use fj_lexer::{LexFault, Lexer};
 use fj_symbols::{Symbol, symbol_of};

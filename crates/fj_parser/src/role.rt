@@ -2,7 +2,7 @@ ghost use Rattle.std.specs.Prelude.{◌≡◌};
 ghost use Rattle.fj_parser.specs.Machine.{name_role, token_role};
 ghost use Rattle.fj_symbols.specs.Views.{role_seen, symbol_seen};
 
-use crate::mode::{Mode, Node};
+use crate::mode::{Mode, Node, Owner};
 use fj_symbols::{Role, Symbol};
 
 /// What an identifier is behind what was read last.
@@ -14,14 +14,16 @@ fn name_role<'a>(mode: Mode, name: &'a str) -> Role<'a>
         Mode::AfterAt(_) => Role::MarkName(name),
         Mode::AfterClass => Role::ClassName(name),
         Mode::AfterType | Mode::AfterMarkedType => Role::FieldName(name),
-        Mode::AfterParamType => Role::ParamName(name),
+        Mode::AfterParamType(Owner::Constructor) => Role::ParamName(name),
+        Mode::AfterParamType(Owner::Method) => Role::MethodParamName(name),
         Mode::InSends | Mode::AfterSendComma | Mode::AfterMark(Node::Send) => Role::SentName(name),
         Mode::AfterThisDot => Role::AssignedName(name),
+        Mode::AfterResult => Role::MethodName(name),
         _ => Role::UsedName(name),
     }
 }
 
-/// What a token is behind what was read last, outside of a formula.
+/// What a token is behind what was read last, outside of formulas and expressions.
 pub fn role_of<'a>(mode: Mode, symbol: Symbol<'a>) -> Role<'a>
     ensures { role_seen result ≡ token_role mode (symbol_seen symbol.entry) }
 {

@@ -4,7 +4,7 @@ use Rattle.fj_symbols.specs.Views.{is_identifier_role, symbol_seen}
 use Rattle.fj_parser.specs.Readers.{misplaced_as}
 use Rattle.fj_parser.specs.Machine.{role}
 use Rattle.fj_parser.specs.MachineViews.{machine_seen}
-use Rattle.fj_parser.specs.Views.{tally_seen}
+use Rattle.fj_tally.specs.Views.{tally_seen}
 use Rattle.fj_parser.proofs.Accepted.{broken_refused, misplaced_refused, not_gone, cannot_go, role_named}
 use Rattle.fj_parser.proofs.accept.accept.Goals as goal
 

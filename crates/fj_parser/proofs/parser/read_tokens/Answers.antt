@@ -7,7 +7,7 @@ use Rattle.cfj_model.specs.declared.fault.ParseFault.TheVariants.{At}
 use Rattle.cfj_model.specs.declared.fault.FaultKind.{FaultKind}
 use Rattle.cfj_model.specs.Faults.{IsTextOf, IsFirstFault}
 use Rattle.fj_parser.specs.MachineViews.{machine_seen}
-use Rattle.fj_parser.specs.Views.{tally_seen}
+use Rattle.fj_tally.specs.Views.{tally_seen}
 use Rattle.fj_symbols.specs.Views.{symbol_seen}
 use Rattle.fj_parser.specs.Built.{built}
 use Rattle.fj_parser.specs.Machine.{reader}

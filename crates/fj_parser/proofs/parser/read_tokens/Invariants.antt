@@ -4,7 +4,7 @@ use Rattle.fj_parser.specs.Counting.{Counted}
 use Rattle.fj_parser.specs.Machine.{reader}
 use Rattle.fj_parser.specs.MachineViews.{machine_seen}
 use Rattle.fj_parser.specs.Reading.{IsReading}
-use Rattle.fj_parser.specs.Views.{tally_seen}
+use Rattle.fj_tally.specs.Views.{tally_seen}
 use Rattle.fj_parser.proofs.parser.read_tokens.Given as goal
 
 abbrev pub invariant-tokens : goal.invariant-tokens

@@ -1,7 +1,7 @@
 ghost use Rattle.std.specs.Prelude.{◌≡◌, ◌<◌, false, None, OnOk};
 ghost use Rattle.cfj_model.specs.ProductLines.{has};
 ghost use Rattle.cfj_model.specs.Roles as spec;
-ghost use Rattle.fj_parser.specs.Views.{tally_seen};
+ghost use Rattle.fj_tally.specs.Views.{tally_seen};
 ghost use Rattle.fj_symbols.specs.Views.{role_seen};
 
 use crate::tally::Tally;

@@ -1,7 +1,7 @@
 use Rattle.std.proofs.Common.{◌≡◌, false, ◌++◌, ◌∷◌, [], ap, map, ◌∙◌}
 use Rattle.cfj_model.specs.ProductLines.{has}
-use Rattle.fj_parser.proofs.MetNames.{insert_key-new}
-use Rattle.fj_parser.proofs.met.Met.add.Goals as goal
+use Rattle.fj_tally.proofs.MetNames.{insert_key-new}
+use Rattle.fj_tally.proofs.met.Met.add.Goals as goal
 
 pub returns : goal.returns
 returns c =

@@ -2,7 +2,7 @@ ghost use Rattle.std.specs.Prelude.{◌≡◌, ◌∷◌, [], true, not, IfOk};
 ghost use Rattle.cfj_model.specs.ProductLines.{has};
 ghost use Rattle.cfj_model.specs.Names.{is_identifier, is_name};
 ghost use Rattle.cfj_model.specs.Roles as spec;
-ghost use Rattle.fj_parser.specs.Views.{broken_in_list, tally_seen};
+ghost use Rattle.fj_tally.specs.Views.{broken_in_list, tally_seen};
 ghost use Rattle.fj_symbols.specs.Views.{is_identifier_role, role_seen};
 
 use crate::tally::Tally;

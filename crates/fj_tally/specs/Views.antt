@@ -5,7 +5,7 @@ use Rattle.cfj_model.specs.declared.fault.FaultKind.TheVariants.{Limit}
 use Rattle.cfj_model.specs.declared.fault.LimitKind.TheVariants as limit
 use Rattle.cfj_model.specs.ProductLines.{most_in_ctor}
 use Rattle.cfj_model.specs.Roles as role
-use Rattle.fj_parser.specs.declared.tally.Tally.{Tally}
+use Rattle.fj_tally.specs.declared.tally.Tally.{Tally}
 
 abbrev pub tally_seen : Tally → role.Tally
 tally_seen t =

@@ -22,7 +22,7 @@ pub struct Tally<'a> {
 }
 
 impl<'a> Tally<'a> {
-    ghost use Rattle.fj_parser.specs.Views.{tally_seen};
+    ghost use Rattle.fj_tally.specs.Views.{tally_seen};
 
     /// Nothing was met; no memory is taken.
     pub fn new(alloc: Global) -> Tally<'a>

@@ -16,6 +16,8 @@ use Rattle.cfj_model.specs.Tokens.{Token, Id, ClassWord, ExtendsWord, SuperWord,
 use Rattle.cfj_model.specs.Roles.{Role, feature_name, mark_name, class_name, field_name, method_name, param_name, method_param_name, sent_name, assigned_name, used_name, plain}
 use Rattle.formula_reader.specs.Machine as formula
 use Rattle.expression_reader.specs.Machine as expression
+use Rattle.expression_reader.specs.declared.roles.Settling.{Settling}
+use Rattle.expression_reader.specs.declared.roles.Settling.TheVariants.{Stays}
 use Rattle.fj_parser.specs.Readers.{Reader, Run, run_of}
 use Rattle.fj_parser.specs.Reading.{of_parts}
 use Rattle.fj_parser.specs.declared.mode.Owner.{Owner}
@@ -321,14 +323,6 @@ takes_name_in InConstraint s = formula.takes_name s.formula
 takes_name_in InExpression s = expression.takes_name s.expression
 takes_name_in m s = takes_name m
 
--- The roles that a token settles, in the order of their tokens: outside of an expression its own.
-abbrev pub emitted_in : Mode → State → Token → List Role
-emitted_in InExpression s t = expression.emitted s.expression t
-emitted_in m s t = role_in m s t ∷ []
-
-abbrev pub emitted : State → Token → List Role
-emitted s t = emitted_in s.mode s t
-
 -- the roles of the tokens that wait, as a bracket's
 abbrev pub pending_in : Mode → State → List Role
 pending_in InExpression s = expression.pending s.expression
@@ -336,6 +330,26 @@ pending_in m s = []
 
 abbrev pub pending : State → List Role
 pending s = pending_in s.mode s
+
+-- what becomes of them by a token
+abbrev pub settles_in : Mode → State → Token → Settling
+settles_in InExpression s t = expression.settles s.expression t
+settles_in m s t = Stays
+
+abbrev pub settles : State → Token → Settling
+settles s t = settles_in s.mode s t
+
+-- whether a token itself waits
+abbrev pub waits_in : Mode → State → Token → Bool
+waits_in InExpression s t = expression.waits s.expression t
+waits_in m s t = false
+
+abbrev pub waits : State → Token → Bool
+waits s t = waits_in s.mode s t
+
+-- the roles that a token settles, in the order of their tokens; outside of an expression its own
+abbrev pub emitted : State → Token → List Role
+emitted s t = expression.settled (settles s t) (pending s) ++ expression.unless (waits s t) (role s t)
 
 -- the machine as a reader
 abbrev pub reader : Reader

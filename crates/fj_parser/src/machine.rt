@@ -9,7 +9,7 @@ use crate::role::role_of;
 use cfj_model::{
     Class, Colors, Constructor, FeatureModel, Field, Formula, Items, Method, Param, Sent,
 };
-use expression_reader::ExpressionReader;
+use expression_reader::{ExpressionReader, Settling};
 use fj_symbols::{Features, Role, Symbol};
 use formula_reader::FormulaReader;
 use std::alloc::{AllocError, Global};
@@ -107,7 +107,7 @@ impl<'a> Machine<'a> {
         (model, self.classes)
     }
 
-    /// What a token would be here.
+    /// What a token would be here; where it waits, what it is in a bracket.
     pub fn role(&self, symbol: Symbol<'a>) -> Role<'a>
         ensures { role_seen result ≡ spec.role (machine_seen self.now) (symbol_seen symbol.entry) }
     {
@@ -115,6 +115,26 @@ impl<'a> Machine<'a> {
             Mode::InConstraint => self.formula.role(symbol),
             Mode::InExpression => self.expression.role(symbol),
             mode => role_of(mode, symbol),
+        }
+    }
+
+    /// What becomes of the tokens that wait, by the next token.
+    pub fn settles(&self, symbol: Symbol<'a>) -> Settling
+        ensures { result ≡ spec.settles (machine_seen self.now) (symbol_seen symbol.entry) }
+    {
+        match self.mode {
+            Mode::InExpression => self.expression.settles(symbol),
+            _ => Settling::Stays,
+        }
+    }
+
+    /// Whether the next token itself waits.
+    pub fn waits(&self, symbol: Symbol<'a>) -> bool
+        ensures { result ≡ spec.waits (machine_seen self.now) (symbol_seen symbol.entry) }
+    {
+        match self.mode {
+            Mode::InExpression => self.expression.waits(symbol),
+            _ => false,
         }
     }
 

@@ -6,6 +6,9 @@ pub mod FirstFault
 pub mod Kept
 pub mod Law
 pub mod LexedTokens
+pub mod ListsSound
+pub mod MembersSound
+pub mod MethodsSound
 pub mod Progress
 pub mod Readers
 pub mod Sound

@@ -1,5 +1,5 @@
 -- The methods of a class, read to their end; a body's expression is read by the expression reader's machine.
-use Rattle.std.proofs.Common.{◌≡◌, ℕ, zero, suc, ◌<◌, List, [], ◌∷◌, ◌++◌, length, map, bit_or, Option, Some, None, refl, sym, ◌∙◌, ap, subst, arith, append_assoc}
+use Rattle.std.proofs.Common.{◌≡◌, ℕ, zero, suc, ◌<◌, true, List, [], ◌∷◌, ◌++◌, length, map, bit_or, Option, Some, None, refl, sym, ◌∙◌, ap, subst, arith, append_assoc}
 use Rattle.std.proofs.lemmas.List.{append-nil}
 use Rattle.std.proofs.lemmas.Option.{same_Some}
 use Rattle.cfj_model.specs.declared.class.Method.{Method}
@@ -13,14 +13,14 @@ use Rattle.expression_reader.specs.Machine as expression
 use Rattle.expression_reader.specs.declared.mode.Mode as expression_mode
 use Rattle.expression_reader.specs.declared.mode.Mode.TheVariants as reading
 use Rattle.expression_reader.proofs.Complete as expression_complete
-use Rattle.expression_reader.proofs.Composing as expression_composing
 use Rattle.expression_reader.proofs.Sound as expression_sound
 use Rattle.fj_parser.specs.declared.mode.Owner.TheVariants as owner
 use Rattle.fj_parser.specs.declared.mode.Node.TheVariants as node
 use Rattle.fj_parser.specs.declared.mode.Mode.TheVariants.{AfterMark, InParams, InMethods, InExpression, AfterBody}
 use Rattle.fj_parser.specs.Machine.{unnamed, State, with_class, with_method, after_expression, in_expression, emitted, run}
 use Rattle.fj_parser.specs.Readers.{then_run, run_of}
-use Rattle.fj_parser.proofs.Complete.{after_params}
+use Rattle.fj_parser.proofs.Complete.{after_params, in_methods, with_a_method}
+use Rattle.fj_parser.proofs.Expressions.{in_body, expression_text}
 use Rattle.fj_parser.proofs.ListsSound.{Accepts, Stops, never, Read, Fixed, params_text, Params, params_read}
 
 -- ---- expr ";"
@@ -70,16 +70,16 @@ more_of_expression t ts s e n goes r =
     }
 
 -- an expression and its semicolon
-expression_read : (ts : List Token) (s : State) (e : expression.State) → Accepts ts (record s { mode = InExpression; expression = e }) → ReadExpression ts s e
+expression_read : (ts : List Token) (s : State) (e : expression.State) → Accepts ts (in_body s e) → ReadExpression ts s e
 unfolding run_of
 expression_read [] s e h = never h
 expression_read (t ∷ ts) s e h = go (λ n g. expression_read ts s n g) (expression.step s.features e t) refl h
   where
-    go : ((n : expression.State) → Accepts ts (record s { mode = InExpression; expression = n }) → ReadExpression ts s n) → (o : Option expression.State) → expression.step s.features e t ≡ o → Stops (then_run (run ts) (emitted (record s { mode = InExpression; expression = e }) t) (in_expression (record s { mode = InExpression; expression = e }) o)) → ReadExpression (t ∷ ts) s e
+    go : ((n : expression.State) → Accepts ts (in_body s n) → ReadExpression ts s n) → (o : Option expression.State) → expression.step s.features e t ≡ o → Stops (then_run (run ts) (emitted (in_body s e) t) (in_expression (in_body s e) o)) → ReadExpression (t ∷ ts) s e
     go ih None goes h = never h
     go ih (Some n) goes h = by (expression.expression n) refl h
       where
-        by : (q : Option Expr) → expression.expression n ≡ q → Accepts ts (after_expression (record s { mode = InExpression; expression = e }) n q) → ReadExpression (t ∷ ts) s e
+        by : (q : Option Expr) → expression.expression n ≡ q → Accepts ts (after_expression (in_body s e) n q) → ReadExpression (t ∷ ts) s e
         by None open_ g = more_of_expression t ts s e n goes (ih n g)
         by (Some x) whole g = ends_expression t ts s e n x goes whole g
 
@@ -100,7 +100,7 @@ abbrev Body : List Token → State → Type 0
 Body ts s = Read ExprTree body_text (λ x. with_method s (value_expr s.features 0 x).0) ts
 
 -- the tokens of an expression are those of a tree, and its value is the tree's
-body_read : (ts : List Token) (s : State) → Accepts ts (record s { mode = InExpression; expression = expression.start }) → Body ts s
+body_read : (ts : List Token) (s : State) → Accepts ts (in_body s expression.start) → Body ts s
 body_read ts s h = of_tree (expression_sound.text_of s.features r.us (ap expression.is_read_whole r.ran ∙ whole_done r.last r.value r.whole))
   where
     r : ReadExpression ts s expression.start
@@ -113,24 +113,16 @@ body_read ts s h = of_tree (expression_sound.text_of s.features r.us (ap express
         record {
           part = x;
           rest = r.rest;
-          spelled = r.split ∙ ap (λ u. u ++ r.rest) is ∙ expression_composing.spell_before x (Semicolon ∷ []) r.rest;
+          spelled = r.split ∙ ap (λ u. u ++ r.rest) is ∙ sym (expression_text x r.rest);
           shorter = r.shorter;
           goes = subst (λ y. Accepts r.rest (with_method s y)) (same_Some r.value (value_expr s.features 0 x).0 value) r.goes;
         }
 
 -- ---- method
 
--- a class before a method, with nothing of it in hand
-abbrev pub in_methods : State → State
-in_methods s = record s { mode = InMethods; params = []; method_colors = 0; result_type = unnamed; method = unnamed; expression = expression.start; colors = 0; of = unnamed }
-
--- one more method in hand
-abbrev with_a_method : State → Method → State
-with_a_method s m = record s { methods = s.methods ++ m ∷ [] }
-
 -- a method with the colours in hand
 abbrev colored_method : State → MethodTree → State
-colored_method s m = in_methods (with_a_method s (record (value_method s.features m) { colors = colored s.features s.colors m.marks }))
+colored_method s m = in_methods (record s { methods = s.methods ++ record (value_method s.features m) { colors = colored s.features s.colors m.marks } ∷ [] })
 
 -- what it is read as
 abbrev ReadMethod : List Token → State → Type 0
@@ -215,7 +207,7 @@ abbrev pub Methods : List Token → State → Type 0
 Methods ts s = Read (List MethodTree) methods_text (λ ms. behind_methods s (s.methods ++ map (value_method s.features) ms)) ts
 
 -- a method and more
-methods_of : (ts : List Token) (s : State) (d : ReadMethod ts (record s { colors = 0 })) → Methods d.rest (with_a_method s (value_method s.features d.part)) → Methods ts s
+methods_of : (ts : List Token) (s : State) (d : ReadMethod ts (record s { colors = 0 })) → Methods d.rest (with_a_method s d.part) → Methods ts s
 methods_of ts s d m =
     record {
       part = d.part ∷ m.part;
@@ -232,8 +224,8 @@ methods_read zero ts le s h = absurd (omega arith)
 methods_read (suc k) (CloseBrace ∷ ts) le s h = record { part = []; rest = ts; spelled = refl; shorter = omega arith; goes = subst (λ ms. Accepts ts (behind_methods s ms)) (sym (append-nil s.methods)) h }
 methods_read (suc k) (At ∷ (Id m ∷ ts)) le s h =
     let d = mark_method m ts (record s { colors = 0 }) (marked_method_read (suc k) ts (omega arith) (record s { colors = bit_or 0 (color_of s.features m) }) h) in
-    methods_of (At ∷ (Id m ∷ ts)) s d (methods_read k d.rest (omega (arith, d.shorter)) (with_a_method s (value_method s.features d.part)) d.goes)
+    methods_of (At ∷ (Id m ∷ ts)) s d (methods_read k d.rest (omega (arith, d.shorter)) (with_a_method s d.part) d.goes)
 methods_read (suc k) (Id a ∷ (Id b ∷ (OpenParen ∷ ts))) le s h =
     let d = words_read (suc k) a b ts (omega arith) (record s { colors = 0 }) h in
-    methods_of (Id a ∷ (Id b ∷ (OpenParen ∷ ts))) s d (methods_read k d.rest (omega (arith, d.shorter)) (with_a_method s (value_method s.features d.part)) d.goes)
+    methods_of (Id a ∷ (Id b ∷ (OpenParen ∷ ts))) s d (methods_read k d.rest (omega (arith, d.shorter)) (with_a_method s d.part) d.goes)
 methods_read (suc k) _ le s h = never h

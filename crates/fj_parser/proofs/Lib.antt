@@ -14,6 +14,7 @@ pub mod Progress
 pub mod Readers
 pub mod Sound
 pub mod Spelled
+pub mod Standing
 pub mod Texts
 pub mod TextsKept
 pub mod TokenReads

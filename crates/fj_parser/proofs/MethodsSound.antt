@@ -26,16 +26,16 @@ use Rattle.fj_parser.proofs.ListsSound.{Accepts, Stops, never, Read, Fixed, para
 -- ---- expr ";"
 
 -- Some of the tokens are an expression's, with its semicolon; what follows is accepted behind it.
-record ReadExpression (ts : List Token) (s : State) (e : expression.State) : Type 0 where
-  us : List Token
-  rest : List Token
-  last : expression.State
-  value : Expr
-  split : ts ≡ us ++ rest
-  shorter : length rest < length ts
-  ran : (expression.run s.features us e).0 ≡ Some last
-  whole : expression.expression last ≡ Some value
-  goes : Accepts rest (with_method s value)
+pub record ReadExpression (ts : List Token) (s : State) (e : expression.State) : Type 0 where
+  pub us : List Token
+  pub rest : List Token
+  pub last : expression.State
+  pub value : Expr
+  pub split : ts ≡ us ++ rest
+  pub shorter : length rest < length ts
+  pub ran : (expression.run s.features us e).0 ≡ Some last
+  pub whole : expression.expression last ≡ Some value
+  pub goes : Accepts rest (with_method s value)
 
 -- the last token of an expression
 ends_expression : (t : Token) (ts : List Token) (s : State) (e n : expression.State) (x : Expr) → expression.step s.features e t ≡ Some n → expression.expression n ≡ Some x → Accepts ts (with_method s x) → ReadExpression (t ∷ ts) s e
@@ -70,7 +70,7 @@ more_of_expression t ts s e n goes r =
     }
 
 -- an expression and its semicolon
-expression_read : (ts : List Token) (s : State) (e : expression.State) → Accepts ts (in_body s e) → ReadExpression ts s e
+pub expression_read : (ts : List Token) (s : State) (e : expression.State) → Accepts ts (in_body s e) → ReadExpression ts s e
 unfolding run_of
 expression_read [] s e h = never h
 expression_read (t ∷ ts) s e h = go (λ n g. expression_read ts s n g) (expression.step s.features e t) refl h
@@ -84,7 +84,7 @@ expression_read (t ∷ ts) s e h = go (λ n g. expression_read ts s n g) (expres
         by (Some x) whole g = ends_expression t ts s e n x goes whole g
 
 -- an expression with a value is whole
-whole_done : (e : expression.State) (x : Expr) → expression.expression e ≡ Some x → expression.is_done e ≡ true
+pub whole_done : (e : expression.State) (x : Expr) → expression.expression e ≡ Some x → expression.is_done e ≡ true
 whole_done e x h = go e.mode h
   where
     go : (m : expression_mode.Mode) → expression.expression_in m ≡ Some x → expression.is_done_mode m ≡ true

@@ -1,4 +1,5 @@
 pub mod Accepted
+pub mod Closing
 pub mod Complete
 pub mod Counted
 pub mod Exact
@@ -10,6 +11,7 @@ pub mod LexedTokens
 pub mod ListsSound
 pub mod MembersSound
 pub mod MethodsSound
+pub mod Naming
 pub mod Progress
 pub mod Readers
 pub mod Sound

@@ -1,5 +1,5 @@
 -- The methods of a class, read to their end; a body's expression is read by the expression reader's machine.
-use Rattle.std.proofs.Common.{◌≡◌, ℕ, zero, suc, ◌<◌, true, List, [], ◌∷◌, ◌++◌, length, map, bit_or, Option, Some, None, refl, sym, ◌∙◌, ap, subst, arith, append_assoc}
+use Rattle.std.proofs.Common.{◌≡◌, ℕ, zero, suc, ◌<◌, Bool, true, false, List, [], ◌∷◌, ◌++◌, length, map, bit_or, Option, Some, None, refl, sym, ◌∙◌, ap, subst, arith, append_assoc}
 use Rattle.std.proofs.lemmas.List.{append-nil}
 use Rattle.std.proofs.lemmas.Option.{same_Some}
 use Rattle.cfj_model.specs.declared.class.Method.{Method}
@@ -12,6 +12,7 @@ use Rattle.cfj_model.specs.Roles.{Role}
 use Rattle.expression_reader.specs.Machine as expression
 use Rattle.expression_reader.specs.declared.mode.Mode as expression_mode
 use Rattle.expression_reader.specs.declared.mode.Mode.TheVariants as reading
+use Rattle.expression_reader.proofs.Law.{ends_once}
 use Rattle.expression_reader.proofs.Complete as expression_complete
 use Rattle.expression_reader.proofs.Sound as expression_sound
 use Rattle.fj_parser.specs.declared.mode.Owner.TheVariants as owner
@@ -21,7 +22,7 @@ use Rattle.fj_parser.specs.Machine.{unnamed, State, with_class, with_method, aft
 use Rattle.fj_parser.specs.Readers.{then_run, run_of}
 use Rattle.fj_parser.proofs.Complete.{after_params, in_methods, with_a_method}
 use Rattle.fj_parser.proofs.Expressions.{in_body, expression_text}
-use Rattle.fj_parser.proofs.ListsSound.{Accepts, Stops, never, Read, Fixed, params_text, Params, params_read}
+use Rattle.fj_parser.proofs.ListsSound.{is_whole, Accepts, Stops, never, Read, Fixed, params_text, Params, params_read}
 
 -- ---- expr ";"
 
@@ -82,6 +83,16 @@ expression_read (t ∷ ts) s e h = go (λ n g. expression_read ts s n g) (expres
         by : (q : Option Expr) → expression.expression n ≡ q → Accepts ts (after_expression (in_body s e) n q) → ReadExpression (t ∷ ts) s e
         by None open_ g = more_of_expression t ts s e n goes (ih n g)
         by (Some x) whole g = ends_expression t ts s e n x goes whole g
+
+-- an expression behind which no token goes on isn't read
+pub read_goes : (ts : List Token) (s : State) (e : expression.State) → Accepts ts (in_body s e) → expression.is_done e ≡ false
+unfolding run_of
+read_goes [] s e h = never h
+read_goes (t ∷ ts) s e h = by (expression.is_done e) refl
+  where
+    by : (b : Bool) → expression.is_done e ≡ b → expression.is_done e ≡ false
+    by false g = g
+    by true g = never (sym (ap (λ o. is_whole (then_run (run ts) (emitted (in_body s e) t) (in_expression (in_body s e) o)).0) (ends_once s.features e t g)) ∙ h)
 
 -- an expression with a value is whole
 pub whole_done : (e : expression.State) (x : Expr) → expression.expression e ≡ Some x → expression.is_done e ≡ true

@@ -1,5 +1,5 @@
 -- What is known of each state that is reached: a formula in hand isn't whole, and what was read of an expression, and its roles.
-use Rattle.std.proofs.Common.{◌≡◌, ℕ, ◌≤◌, Bool, true, false, if◌then◌else◌, List, [], ◌∷◌, ◌++◌, length, Option, Some, None, refl, sym, ◌∙◌, ap, subst, arith, append_assoc, length-append, nat_le}
+use Rattle.std.proofs.Common.{◌≡◌, ℕ, suc, ◌+◌, ◌≤◌, Bool, true, false, if◌then◌else◌, List, [], ◌∷◌, ◌++◌, length, Option, Some, None, refl, sym, ◌∙◌, ap, subst, arith, append_assoc, length-append, nat_le}
 use Rattle.std.proofs.lemmas.Bool.{and_from, and_parts, leb-true, le-leb}
 use Rattle.std.proofs.lemmas.List.{append-nil}
 use Rattle.std.proofs.lemmas.Option.{none-some, same_Some}
@@ -231,6 +231,11 @@ holds_in : (m : Mode) (s : State) (rs : List Role) → NoBody s rs → Holds m s
 holds_in InExpression s rs h = as_body s rs h
 holds_in _ s rs h = h
 
+-- before its first token nothing waits
+start_waits : (m : Mode) (s : State) → s.expression ≡ expression.start → pending_in m s ≡ []
+start_waits InExpression s e = ap expression.pending e
+start_waits _ s e = refl
+
 -- what waits is settled as it is
 pub waiting_settled : (m : Mode) (s : State) (rs : List Role) → Holds m s rs → are_settled (rs ++ pending_in m s) ≡ true
 waiting_settled InExpression s rs h =
@@ -303,6 +308,48 @@ expression_stands s t rs here f (Some n) goes h = by (expression.expression n) r
         let alone : are_settled (h.own ++ expression.emitted s.expression t) ≡ true = sym (ap are_settled (ap (λ q. (h.own ++ expression.emitted s.expression t) ++ q) (whole_waits n x e) ∙ append-nil (h.own ++ expression.emitted s.expression t))) ∙ own in
         record { formula_goes = f; holds = record { settled = ap are_settled all ∙ settled_append h.before (h.own ++ expression.emitted s.expression t) h.settled alone; none = refl } }
 
+-- the token of a formula is settled at once
+formula_once : (s n : State) (t : Token) (o : Option formula.State) → s.expression ≡ expression.start → in_formula s o ≡ Some n → length (emitted_in InConstraint s t) + length (pending n) ≡ suc (length (pending_in InConstraint s))
+formula_once s n t None none g = absurd (none-some n g)
+formula_once s n t (Some f) none g = by (formula.formula_of f) g
+  where
+    by : (q : Option Formula) → Some (after_formula s f q) ≡ Some n → length (emitted_in InConstraint s t) + length (pending n) ≡ suc (length (pending_in InConstraint s))
+    by None g =
+        let same : record s { formula = f } ≡ n = same_Some (record s { formula = f }) n g in
+        let behind : length (pending n) ≡ 0 = ap (λ (x : State). length (pending x)) (sym same) ∙ ap length (start_waits s.mode (record s { formula = f }) none) in
+        omega arith
+    by (Some x) g =
+        let same : after_formula s f (Some x) ≡ n = same_Some (after_formula s f (Some x)) n g in
+        let behind : length (pending n) ≡ 0 = ap (λ (x : State). length (pending x)) (sym same) in
+        omega arith
+
+-- one of an expression is settled or waits
+one_read : (fs : List (List ℕ)) (e n : expression.State) (t : Token) → expression.step fs e t ≡ Some n → length (expression.emitted e t) + length (expression.pending n) ≡ suc (length (expression.pending e))
+unfolding expression.run
+one_read fs e n t goes =
+    let ran : expression.run fs (t ∷ []) e ≡ (Some n, expression.emitted e t ++ []) = ap (expression.then_run (expression.run fs []) (expression.emitted e t)) goes in
+    let long : length (expression.run fs (t ∷ []) e).1 + length (expression.pending n) ≡ length (expression.pending e) + 1 = expression_law.run_long fs (t ∷ []) e n (ap (λ (p : expression.Run). p.0) ran) in
+    let own : length (expression.run fs (t ∷ []) e).1 ≡ length (expression.emitted e t) = ap (λ (p : expression.Run). length p.1) ran ∙ ap length (append-nil (expression.emitted e t)) in
+    omega arith
+
+expression_once : (s n : State) (t : Token) → s.mode ≡ InExpression → (o : Option expression.State) → expression.step s.features s.expression t ≡ o → in_expression s o ≡ Some n → length (expression.emitted s.expression t) + length (pending n) ≡ suc (length (expression.pending s.expression))
+expression_once s n t here None goes g = absurd (none-some n g)
+expression_once s n t here (Some e) goes g = by (expression.expression e) refl g
+  where
+    once : length (expression.emitted s.expression t) + length (expression.pending e) ≡ suc (length (expression.pending s.expression))
+    once = one_read s.features s.expression e t goes
+
+    by : (q : Option Expr) → expression.expression e ≡ q → Some (after_expression s e q) ≡ Some n → length (expression.emitted s.expression t) + length (pending n) ≡ suc (length (expression.pending s.expression))
+    by None none g =
+        let same : record s { expression = e } ≡ n = same_Some (record s { expression = e }) n g in
+        let behind : length (pending n) ≡ length (expression.pending e) = ap (λ (x : State). length (pending x)) (sym same) ∙ ap (λ m. length (pending_in m (record s { expression = e }))) here in
+        omega (arith, once)
+    by (Some x) whole g =
+        let same : with_method s x ≡ n = same_Some (with_method s x) n g in
+        let behind : length (pending n) ≡ 0 = ap (λ (x : State). length (pending x)) (sym same) in
+        let none : length (expression.pending e) ≡ 0 = ap length (whole_waits e x whole) in
+        omega (arith, once)
+
 -- a step keeps it
 stands_step : (s : State) (t : Token) (rs : List Role) → Stands s rs → StandsIn (step s t) (rs ++ emitted s t)
 stands_step s t rs h = by (is_declaring s.mode) refl
@@ -315,6 +362,27 @@ stands_step s t rs h = by (is_declaring s.mode) refl
     by : (b : Bool) → is_declaring s.mode ≡ b → StandsIn (step s t) (rs ++ emitted s t)
     by true e = declaring_stands s.mode s t rs e h.formula_goes (no_body s.mode s rs e h.holds)
     by false e = hosted s.mode refl e h.holds
+
+-- Behind a step each token is settled or waits.
+pub each_once : (s n : State) (t : Token) (rs : List Role) → Stands s rs → step s t ≡ Some n → length (emitted s t) + length (pending n) ≡ suc (length (pending s))
+each_once s n t rs h goes = by (is_declaring s.mode) refl
+  where
+    declaring : is_declaring s.mode ≡ true → length (emitted s t) + length (pending n) ≡ suc (length (pending s))
+    declaring e =
+        let next : Alike s (Some n) = subst (Alike s) goes (alike_step s.mode s t e) in
+        let own : length (emitted s t) ≡ 1 = ap length (declaring_emits s.mode s t e) in
+        let before : length (pending s) ≡ 0 = ap length (declaring_waits s.mode s e) in
+        let behind : length (pending n) ≡ 0 = ap length (start_waits n.mode n (next.1 ∙ (no_body s.mode s rs e h.holds).none)) in
+        omega arith
+
+    hosted : (m : Mode) → s.mode ≡ m → is_declaring m ≡ false → Holds m s rs → step_in m s t ≡ Some n → length (emitted_in m s t) + length (pending n) ≡ suc (length (pending_in m s))
+    hosted InConstraint here e k g = formula_once s n t (formula.step s.features s.formula t) k.none g
+    hosted InExpression here e k g = expression_once s n t here (expression.step s.features s.expression t) refl g
+    hosted _ here e k g = no_case (sym e)
+
+    by : (b : Bool) → is_declaring s.mode ≡ b → length (emitted s t) + length (pending n) ≡ suc (length (pending s))
+    by true e = declaring e
+    by false e = hosted s.mode refl e h.holds goes
 
 -- and so does a run
 stands_run : (ts : List Token) (s n : State) (rs qs : List Role) → Stands s rs → run ts s ≡ (Some n, qs) → Stands n (rs ++ qs)

@@ -88,5 +88,5 @@ expression_tree_runs x ts s =
 pub rest_reads : (fs : List (List ℕ)) (front more : List Token) (e : expression.State) (rs : List Role) (x : ExprTree) → expression.run fs front expression.start ≡ (Some e, rs) → spell_expr x (Semicolon ∷ []) ≡ front ++ more → (expression.run fs more e ≡ (Some (expression.done (value_expr fs 0 x).0), (expression.run fs more e).1)) × (rs ++ (expression.run fs more e).1 ≡ roles_expr 0 x (plain ∷ []))
 rest_reads fs front more e rs x h text =
     let both : expression.with_roles rs (expression.run fs more e) ≡ (Some (expression.done (value_expr fs 0 x).0), roles_expr 0 x (plain ∷ [])) =
-        ap (on_from fs more) (sym h) ∙ sym (run_append fs front more expression.start) ∙ ap (λ us. expression.run fs us expression.start) (sym text) ∙ text_runs fs x in
+    ap (on_from fs more) (sym h) ∙ sym (run_append fs front more expression.start) ∙ ap (λ us. expression.run fs us expression.start) (sym text) ∙ text_runs fs x in
     (ap (λ (p : expression.Run). (p.0, (expression.run fs more e).1)) both, ap (λ (p : expression.Run). p.1) both)

@@ -1,7 +1,7 @@
 -- Each state can be completed: tokens that lead from it to the end of a text.
 use Rattle.std.proofs.Common.{◌≡◌, ℕ, Bool, true, false, if◌then◌else◌, List, [], ◌∷◌, ◌++◌, bit_or, Option, Some, None, refl, sym, ◌∙◌, ap, subst, append_assoc}
 use Rattle.std.specs.Str.{bytes_eq}
-use Rattle.cfj_model.specs.ExpressionGrammar.{ExprTree, roles_expr, value_expr}
+use Rattle.cfj_model.specs.ExpressionGrammar.{value_expr}
 use Rattle.cfj_model.specs.Marks.{color_of}
 use Rattle.cfj_model.specs.Tokens.{Token, Id, ClassWord, ExtendsWord, SuperWord, ThisWord, ReturnWord, OpenBrace, CloseBrace, OpenParen, CloseParen, Semicolon, Dot, Equals, End}
 use Rattle.cfj_model.specs.Roles.{Role, used_name, plain}
@@ -17,7 +17,7 @@ use Rattle.fj_parser.specs.declared.mode.Node.{Node}
 use Rattle.fj_parser.specs.declared.mode.Node.TheVariants as node
 use Rattle.fj_parser.specs.declared.mode.Mode.{Mode}
 use Rattle.fj_parser.specs.declared.mode.Mode.TheVariants.{Begin, AfterFeatures, AfterFeature, AfterFeatureComma, Start, InConstraint, BetweenClasses, AfterAt, AfterMark, AfterMarkedType, AfterClass, AfterClassName, AfterExtends, AfterParent, InMembers, AfterType, AfterFieldName, InParams, AfterParamComma, AfterParamType, AfterParam, AfterParams, InBody, AfterSuper, InSends, AfterSendComma, AfterSend, AfterSends, InAssigns, AfterThis, AfterThisDot, AfterAssigned, AfterEquals, AfterSecondName, InMethods, AfterResult, AfterMethodName, InMethodBody, InExpression, AfterBody, AtEnd}
-use Rattle.fj_parser.specs.Machine.{unnamed, State, with_field, with_method, pending, pending_in, run}
+use Rattle.fj_parser.specs.Machine.{unnamed, State, with_field, with_method, pending, run}
 use Rattle.fj_parser.specs.Readers.{Run, with_roles, then_run, run_of}
 use Rattle.fj_parser.proofs.Complete.{same_name, formula_runs}
 use Rattle.fj_parser.proofs.Expressions.{in_body, expression_runs, rest_reads}

@@ -1,10 +1,10 @@
 -- The laws of the machine: it reads the texts of projects and no others, and each state can be completed.
-use Rattle.std.proofs.Common.{◌≡◌, ℕ, suc, ◌+◌, Bool, true, false, List, [], ◌∷◌, ◌++◌, length, Option, Some, None, refl, sym, ◌∙◌, ap, subst, append_assoc}
+use Rattle.std.proofs.Common.{◌≡◌, ℕ, Bool, true, false, List, [], ◌∷◌, ◌++◌, Option, Some, None, refl, sym, ◌∙◌, ap, subst, append_assoc}
 use Rattle.std.proofs.lemmas.Option.{none-some}
 use Rattle.cfj_model.specs.Faults.{projects}
 use Rattle.cfj_model.specs.FormulaGrammar.{IffTree}
 use Rattle.cfj_model.specs.Grammar.{ClassTree, Tree, spell}
-use Rattle.cfj_model.specs.Roles.{Role, casts, plain, are_settled}
+use Rattle.cfj_model.specs.Roles.{Role}
 use Rattle.cfj_model.specs.Tokens.{Token, End}
 use Rattle.formula_reader.specs.Machine as formula
 use Rattle.formula_reader.specs.declared.mode.Mode as formula_mode
@@ -18,8 +18,8 @@ use Rattle.fj_parser.specs.declared.mode.Owner.TheVariants as owner
 use Rattle.fj_parser.specs.declared.mode.Node.TheVariants as node
 use Rattle.fj_parser.specs.declared.mode.Mode.{Mode}
 use Rattle.fj_parser.specs.declared.mode.Mode.TheVariants.{Begin, Start, InConstraint, BetweenClasses, AfterMark, AfterParams, InExpression, AtEnd}
-use Rattle.fj_parser.specs.Machine.{State, start, with_method, in_formula, in_expression, step_in, step, pending, pending_in, emitted, reader, run, stands_for}
-use Rattle.fj_parser.specs.Readers.{Run, with_roles, run_of}
+use Rattle.fj_parser.specs.Machine.{State, start, with_method, in_formula, in_expression, step_in, step, pending, pending_in, reader, run, stands_for}
+use Rattle.fj_parser.specs.Readers.{Run, with_roles}
 use Rattle.fj_parser.proofs.Closing.{Reaches, Ending, ending}
 use Rattle.fj_parser.proofs.Complete.{mode_behind, classes_run, ended, text_runs}
 use Rattle.fj_parser.proofs.Expressions.{in_body, expression_runs}
@@ -29,7 +29,7 @@ use Rattle.fj_parser.proofs.Naming.{goes_by_name, name_stops}
 use Rattle.fj_parser.proofs.Readers.{on_from, run_append}
 use Rattle.fj_parser.proofs.Sound.{Tail, no_end, an_end, text_of}
 use Rattle.fj_parser.proofs.Spelled.{grammar_is_plain}
-use Rattle.fj_parser.proofs.Standing.{Stands, reached, waiting_settled, each_once}
+use Rattle.fj_parser.proofs.Standing.{reached, waiting_settled, each_once}
 
 -- ---- what is read to the end is a text
 

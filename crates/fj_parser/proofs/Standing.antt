@@ -1,5 +1,5 @@
 -- What is known of each state that is reached: a formula in hand isn't whole, and what was read of an expression, and its roles.
-use Rattle.std.proofs.Common.{◌≡◌, ℕ, suc, ◌+◌, ◌≤◌, Bool, true, false, if◌then◌else◌, List, [], ◌∷◌, ◌++◌, length, Option, Some, None, refl, sym, ◌∙◌, ap, subst, arith, append_assoc, length-append, nat_le}
+use Rattle.std.proofs.Common.{◌≡◌, ℕ, suc, ◌+◌, ◌≤◌, Bool, true, false, if◌then◌else◌, List, [], ◌∷◌, ◌++◌, length, Option, Some, None, refl, sym, ◌∙◌, ap, subst, arith, append_assoc, length-append}
 use Rattle.std.proofs.lemmas.Bool.{and_from, and_parts, leb-true, le-leb}
 use Rattle.std.proofs.lemmas.List.{append-nil}
 use Rattle.std.proofs.lemmas.Option.{none-some, same_Some}
@@ -20,7 +20,7 @@ use Rattle.fj_parser.specs.declared.mode.Node.TheVariants as node
 use Rattle.fj_parser.specs.declared.mode.Mode.{Mode}
 use Rattle.fj_parser.specs.declared.mode.Mode.TheVariants.{Begin, AfterFeatures, AfterFeature, AfterFeatureComma, Start, InConstraint, BetweenClasses, AfterAt, AfterMark, AfterMarkedType, AfterClass, AfterClassName, AfterExtends, AfterParent, InMembers, AfterType, AfterFieldName, InParams, AfterParamComma, AfterParamType, AfterParam, AfterParams, InBody, AfterSuper, InSends, AfterSendComma, AfterSend, AfterSends, InAssigns, AfterThis, AfterThisDot, AfterAssigned, AfterEquals, AfterSecondName, InMethods, AfterResult, AfterMethodName, InMethodBody, InExpression, AfterBody}
 use Rattle.fj_parser.specs.Machine.{unnamed, State, start, with_method, after_formula, in_formula, after_expression, in_expression, opens_constraint, step_in, step, token_role, role_in, pending_in, pending, settles_in, waits_in, emitted, run}
-use Rattle.fj_parser.specs.Readers.{Run, with_roles, then_run, run_of}
+use Rattle.fj_parser.specs.Readers.{Run, then_run, run_of}
 use Rattle.fj_parser.proofs.Sound.{none_undone}
 
 -- ---- the modes outside of formulas and expressions

@@ -4,6 +4,8 @@ pub mod Counted
 pub mod Exact
 pub mod FirstFault
 pub mod Kept
+pub mod KeptMembers
+pub mod KeptNames
 pub mod Law
 pub mod LexedTokens
 pub mod Progress

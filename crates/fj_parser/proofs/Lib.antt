@@ -6,6 +6,8 @@ pub mod Exact
 pub mod Expressions
 pub mod FirstFault
 pub mod Kept
+pub mod KeptMembers
+pub mod KeptNames
 pub mod Law
 pub mod LexedTokens
 pub mod ListsSound

@@ -7,3 +7,4 @@ pub mod Machine
 pub mod MachineViews
 pub mod Reading
 pub mod Readers
+pub mod Waiting

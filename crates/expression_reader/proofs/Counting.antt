@@ -223,6 +223,16 @@ settled_of_body Cast _ d = refl
 emitted_of_body : (s : State) (t : Token) → are_of_body (emitted s t) ≡ true
 emitted_of_body s t = joined_of_body _ _ (settled_of_body (settles s t) s.mode (open_frames s.frames)) (unless_of_body (waits s t) (role s t) (role_of_body s.mode (depth s) t))
 
+-- Each role that a step settles is that of an expression's token.
+pub roles_of_body : (s : State) (t : Token) → list_all is_role_of_body (emitted s t) ≡ true
+unfolding are_of_body
+roles_of_body s t = emitted_of_body s t
+
+-- And so is each role that waits.
+pub pending_of_body : (s : State) → list_all is_role_of_body (pending s) ≡ true
+unfolding are_of_body
+pending_of_body s = settled_of_body Bracket s.mode (open_frames s.frames)
+
 -- The tally counts their nodes.
 one_counted : (t : Tally) (r : Role) → is_role_of_body r ≡ true → (counted t r).nodes ≡ t.nodes + (if is_node r then 1 else 0)
 one_counted t (var_name w) h = refl

@@ -22,20 +22,12 @@ use Rattle.cfj_model.specs.ExpressionGrammar.{ExprTree, cast, chain, StartTree, 
 use Rattle.fj_symbols.specs.Views.{are_read}
 use Rattle.expression_reader.specs.Laws.{IsKept}
 use Rattle.expression_reader.proofs.Bodies.{Known, Chain, chain_ends, bracketed_known, ArgsKnown, none_known, args_more, var_known, get_known, call_known, new_known, cast_known, body_known}
+use Rattle.expression_reader.proofs.Short.{none_first, or_left, short_identifier}
 
 -- ---- what one token's role says
 
--- a test of a list of tests that finds none holding
-none_first : (b : Bool) (k : FaultKind) (rest : List (Bool × FaultKind)) → first_of ((b, k) ∷ rest) ≡ None → (b ≡ false) × (first_of rest ≡ None)
-none_first true k rest e = absurd (none-some k (sym e))
-none_first false k rest e = (refl, e)
-
--- an identifier that isn't long
-short : (w : List ℕ) → is_identifier w ≡ true → is_long w ≡ false → is_short_identifier w ≡ true
-short w i l = and_from _ _ i (le-leb _ _ (ltb-false _ _ l))
-
 used_short : (w : List ℕ) (t : Tally) → is_identifier w ≡ true → broken_by t (used_name w) ≡ None → is_short_identifier w ≡ true
-used_short w t i h = short w i (none_first (is_long w) (Limit limit.Name) [] h).0
+used_short w t i h = short_identifier w i (none_first (is_long w) (Limit limit.Name) [] h).0
 
 -- there is room for one more node
 record Room (t : Tally) : Type 0 where
@@ -51,11 +43,7 @@ room t h =
 nests : (d : ℕ) (rest : List (Bool × FaultKind)) → first_of (past_nest d ∷ rest) ≡ None → (d ≤ most_nest) × (first_of rest ≡ None)
 nests d rest h = let a = none_first (nat_lt most_nest d) (Limit limit.Nest) rest h in (ltb-false _ _ a.0, a.1)
 
--- a name of a variable
-or_left : (a b : Bool) → a ≡ true → (a || b) ≡ true
-or_left true b h = refl
-or_left false b h = absurd (let no : ⊥ = cc h in no)
-
+-- `this` is a name
 or_right : (a b : Bool) → b ≡ true → (a || b) ≡ true
 or_right true b h = refl
 or_right false b h = h
@@ -145,7 +133,7 @@ variable_kept fs t d n w rest more h =
     let r : Room t = room t a.1 in
     let i = and_parts (is_identifier w) (are_read more) h.read in
     record {
-      known = var_known (length fs) n d w h.open_few (or_left (is_short_identifier w) (bytes_eq w (codes "this")) (short w i.0 a.0));
+      known = var_known (length fs) n d w h.open_few (or_left (is_short_identifier w) (bytes_eq w (codes "this")) (short_identifier w i.0 a.0));
       behind = record { marks = []; nodes = t.nodes + 1; size = t.size + 1; nodes_rise = omega arith; size_rises = omega arith; few = omega (arith, r.nodes); small = omega (arith, r.size); within = h.within.1; read = i.1 };
     }
 

@@ -263,7 +263,7 @@ same_front (x ∷ xs) (y ∷ ys) as_ bs l h =
     cc (head, rest)
 
 -- what waits is settled as a bracket's, or as a cast's
-data Shown (ps qs : List Role) : Type 0 where
+pub data Shown (ps qs : List Role) : Type 0 where
   a_bracket : (others : List Role) → qs ≡ ps ++ others → Shown ps qs
   a_cast : (others : List Role) → are_settled (map as_cast ps) ≡ false → qs ≡ map as_cast ps ++ others → Shown ps qs
 
@@ -307,7 +307,7 @@ paren_shown fs (NewWord ∷ ts) frames n h = a_bracket _ refl
 paren_shown fs (OpenParen ∷ ts) frames n h = a_bracket _ refl
 paren_shown fs (_ ∷ ts) frames n h = never h
 
-shown : (fs : List (List ℕ)) (m : Mode) (ts : List Token) (frames : List Frame) (n : ℕ) → Accepts fs ts (at frames m n) → Shown (pending (at frames m n)) (run fs ts (at frames m n)).1
+pub shown : (fs : List (List ℕ)) (m : Mode) (ts : List Token) (frames : List Frame) (n : ℕ) → Accepts fs ts (at frames m n) → Shown (pending (at frames m n)) (run fs ts (at frames m n)).1
 shown fs Paren ts frames n h = paren_shown fs ts frames n h
 shown fs (ParenName w) ts frames n h = paren_name_shown fs ts w frames n h
 shown fs (ParenClosed w) ts frames n h = by (closed_shown fs ts w frames n h)

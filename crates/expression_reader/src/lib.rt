@@ -14,6 +14,7 @@ mod operands;
 mod reader;
 mod roles;
 mod stack;
+mod word;
 
 pub use laws::{counts_each, keeps_bodies, reads_exactly, reads_fronts, stands_before};
 pub use reader::ExpressionReader;

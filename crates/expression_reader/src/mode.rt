@@ -1,4 +1,5 @@
 use crate::frame::Head;
+use crate::word::Word;
 use cfj_model::{Arg, Colors, Expr, Items, Name};
 
 /// What was read last, which says what may follow.
@@ -22,10 +23,10 @@ pub enum Mode {
     },
     /// A bracket where an expression begins; it may be a cast's.
     Paren,
-    /// And a name in it.
-    ParenName(Name),
+    /// And a name in it, whose role waits: it may be too long for that role.
+    ParenName(Word),
     /// And its end.
-    ParenClosed(Name),
+    ParenClosed(Word),
     /// A whole expression, which may go on.
     After(Expr),
     /// And a dot.

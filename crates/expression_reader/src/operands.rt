@@ -3,13 +3,15 @@ ghost use Rattle.cfj_model.specs.Names.{is_name};
 ghost use Rattle.cfj_model.specs.Tokens.{ThisWord};
 ghost use Rattle.cfj_model.specs.declared.expr.Expr.TheVariants as e;
 ghost use Rattle.expression_reader.specs.Machine as machine;
-ghost use Rattle.expression_reader.specs.Views.{moved};
-ghost use Rattle.fj_symbols.specs.Views.{is_name_token, symbol_seen};
+ghost use Rattle.expression_reader.specs.Views.{is_short, moved, settles_short};
+ghost use Rattle.expression_reader.specs.declared.mode.Mode.TheVariants as mode;
+ghost use Rattle.fj_symbols.specs.Views.{is_name_token, is_read, symbol_seen};
 
 use crate::frame::{Frame, Head};
 use crate::mode::Mode;
 use crate::reader::ExpressionReader;
 use crate::roles::begins_operand;
+use crate::word::Word;
 use cfj_model::{Expr, Name};
 use fj_symbols::{Symbol, name_of};
 use std::alloc::{AllocError, Global};
@@ -57,13 +59,13 @@ impl ExpressionReader {
         alloc: Global,
         symbol: Symbol<'_>,
     ) -> Result<Option<Mode>, AllocError>
-        requires named { is_name_token (symbol_seen symbol) ≡ true }
+        requires read { is_read (symbol_seen symbol) ≡ true }
         requires room { self.old.slot + 1 < 2 ^ 16 }
         ensures { IfOk result (λ mode. moved mode self.new.frames self.new.slot ≡ machine.paren self.old.frames self.old.slot (symbol_seen symbol.entry)) }
     {
         match symbol {
             Symbol::Id(name) => {
-                let name = name_of(alloc, name)?;
+                let name = Word::of(alloc, name)?;
                 Ok(Some(Mode::ParenName(name)))
             }
             _ => {
@@ -75,15 +77,18 @@ impl ExpressionReader {
 
     pub(crate) fn paren_name(
         &mut self,
-        name: Name,
+        alloc: Global,
+        name: Word,
         symbol: Symbol<'_>,
     ) -> Result<Option<Mode>, AllocError>
+        requires short { settles_short (mode.ParenName name) (symbol_seen symbol) ≡ true }
         requires room { self.old.slot + 1 < 2 ^ 16 }
         ensures { IfOk result (λ mode. moved mode self.new.frames self.new.slot ≡ machine.paren_name name self.old.frames self.old.slot (symbol_seen symbol.entry)) }
     {
         match symbol {
             Symbol::CloseParen => Ok(Some(Mode::ParenClosed(name))),
             Symbol::Dot => {
+                let name = name.into_name(alloc)?;
                 let slot = self.slot;
                 self.frames.push(Frame::InBracket)?;
                 self.slot += 1;
@@ -96,13 +101,15 @@ impl ExpressionReader {
     pub(crate) fn paren_closed(
         &mut self,
         alloc: Global,
-        name: Name,
+        name: Word,
         symbol: Symbol<'_>,
     ) -> Result<Option<Mode>, AllocError>
+        requires short { is_short name ≡ true }
         requires named { is_name_token (symbol_seen symbol) ≡ true }
         requires room { self.old.slot + 2 < 2 ^ 16 }
         ensures { IfOk result (λ mode. moved mode self.new.frames self.new.slot ≡ machine.paren_closed name self.old.frames self.old.slot (symbol_seen symbol.entry)) }
     {
+        let name = name.into_name(alloc)?;
         let slot = self.slot;
         self.slot += 1;
         if begins_operand(symbol) {

@@ -1,7 +1,7 @@
 ghost use Rattle.std.specs.Prelude.{◌≡◌, ◌+◌, ◌≤◌, ◌<◌, ◌^◌, true, IfOk, length};
 ghost use Rattle.expression_reader.specs.Machine as machine;
-ghost use Rattle.expression_reader.specs.Views.{reader_seen, moved, Goes, IsRoomy};
-ghost use Rattle.fj_symbols.specs.Views.{is_name_token, symbol_seen};
+ghost use Rattle.expression_reader.specs.Views.{reader_seen, moved, settles_short, Goes, IsRoomy};
+ghost use Rattle.fj_symbols.specs.Views.{is_read, symbol_seen};
 
 use crate::frame::Frame;
 use crate::mode::Mode;
@@ -44,7 +44,8 @@ impl ExpressionReader {
         features: &Features<'_>,
         symbol: Symbol<'_>,
     ) -> Result<bool, AllocError>
-        requires named { is_name_token (symbol_seen symbol) ≡ true }
+        requires read { is_read (symbol_seen symbol) ≡ true }
+        requires short { settles_short (reader_seen self.old).mode (symbol_seen symbol) ≡ true }
         requires few { length features.now ≤ 128 }
         requires room { IsRoomy (reader_seen self.old) }
         ensures { IfOk result (λ goes. Goes goes (machine.step features.now (reader_seen self.old) (symbol_seen symbol.entry)) (reader_seen self.new)) }
@@ -67,7 +68,8 @@ impl ExpressionReader {
         mode: Mode,
         symbol: Symbol<'_>,
     ) -> Result<Option<Mode>, AllocError>
-        requires named { is_name_token (symbol_seen symbol) ≡ true }
+        requires read { is_read (symbol_seen symbol) ≡ true }
+        requires short { settles_short mode (symbol_seen symbol) ≡ true }
         requires few { length features.now ≤ 128 }
         requires room { self.old.slot + 2 < 2 ^ 16 }
         ensures { IfOk result (λ next. moved next self.new.frames self.new.slot ≡ machine.step_in features.now mode self.old.frames self.old.slot (symbol_seen symbol.entry)) }
@@ -82,7 +84,7 @@ impl ExpressionReader {
                 Ok(self.after_at(features, head, done, colors, symbol))
             }
             Mode::Paren => self.paren(alloc, symbol),
-            Mode::ParenName(name) => self.paren_name(name, symbol),
+            Mode::ParenName(name) => self.paren_name(alloc, name, symbol),
             Mode::ParenClosed(name) => self.paren_closed(alloc, name, symbol),
             Mode::After(x) => self.after(alloc, x, symbol),
             Mode::AfterDot(x) => self.after_dot(alloc, x, symbol),
@@ -91,6 +93,13 @@ impl ExpressionReader {
             Mode::AfterClass(name) => Ok(self.after_class(name, symbol)),
             Mode::Done(_) => Ok(None),
         }
+    }
+
+    /// Whether the expression is read, with the token behind it.
+    pub fn is_done(&self) -> bool
+        ensures { result ≡ machine.is_done (reader_seen self.now) }
+    {
+        matches!(self.mode, Mode::Done(_))
     }
 
     /// The expression, where it is read with the token behind it.

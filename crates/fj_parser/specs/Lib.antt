@@ -1,6 +1,5 @@
 pub mod Accepting
 pub mod Answers
-pub mod Built
 pub mod Counting
 pub mod Laws
 pub mod Machine

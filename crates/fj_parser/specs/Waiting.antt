@@ -2,7 +2,9 @@
 use Rattle.std.specs.Prelude.{ℕ, Bool, true, false, List, [], ◌∷◌}
 use Rattle.cfj_model.specs.Roles.{Role, opens, plain, var_name, Tally, AreWithin}
 use Rattle.cfj_model.specs.Tokens.{Token}
-use Rattle.expression_reader.specs.Machine.{settled}
+use Rattle.expression_reader.specs.Machine.{as_cast, settled}
+use Rattle.expression_reader.specs.declared.roles.Settling.{Settling}
+use Rattle.expression_reader.specs.declared.roles.Settling.TheVariants.{Stays, Cast}
 use Rattle.fj_parser.specs.Machine.{State, pending, settles}
 use Rattle.fj_parser.specs.declared.waiting.Waiting.{Waiting}
 use Rattle.fj_parser.specs.declared.waiting.Waiting.TheVariants.{Nothing, Bracket, Name, Closed}
@@ -20,6 +22,16 @@ waiting_places Nothing = []
 waiting_places (Bracket b) = b.at ∷ []
 waiting_places (Name b w) = b.at ∷ (w.at ∷ [])
 waiting_places (Closed b w close) = b.at ∷ (w.at ∷ (close ∷ []))
+
+-- what waits on, by what becomes of it
+abbrev pub waiting_left : Settling → Waiting → Waiting
+waiting_left Stays w = w
+waiting_left _ w = Nothing
+
+-- the role of a token that waited, by what became of it
+abbrev pub settled_role : Settling → Role → Role
+settled_role Cast r = as_cast r
+settled_role _ r = r
 
 -- Tokens in these roles can wait: a bracket, and a name in it, and its end.
 abbrev pub may_wait : List Role → Bool

@@ -12,7 +12,7 @@ use Rattle.cfj_model.specs.Roles.{Role, casts, opens, used_name, var_name, mark_
 use Rattle.fj_symbols.specs.Views.{is_read, is_name_token}
 use Rattle.expression_reader.specs.declared.mode.Mode.{Mode}
 use Rattle.expression_reader.specs.declared.mode.Mode.TheVariants.{AfterAt, AfterDot, AfterNew, Paren, ParenName, ParenClosed}
-use Rattle.expression_reader.specs.Machine.{State, depth, open_frames, emitted, pending, pending_in, settled, settles, settles_in, waits, waits_in, unless, role, role_in, name_role}
+use Rattle.expression_reader.specs.Machine.{State, open_frames, emitted, pending, pending_in, settled, settles, settles_in, waits, waits_in, unless, role, name_role}
 use Rattle.expression_reader.specs.Views.{is_short, is_short_token, settles_short}
 
 -- ---- short names

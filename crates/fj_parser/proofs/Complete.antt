@@ -4,25 +4,29 @@ use Rattle.std.proofs.lemmas.List.{append-nil}
 use Rattle.std.proofs.lemmas.Slice.Eq.{bytes_eq-Decides}
 use Rattle.std.specs.Str.{bytes_eq}
 use Rattle.cfj_model.specs.declared.class.Class.{Class}
-use Rattle.cfj_model.specs.Tokens.{Token, Id, ClassWord, ExtendsWord, SuperWord, ThisWord, OpenBrace, CloseBrace, OpenParen, CloseParen, Semicolon, Comma, Dot, Equals, At, End}
+use Rattle.cfj_model.specs.Tokens.{Token, Id, ClassWord, ExtendsWord, SuperWord, ThisWord, ReturnWord, OpenBrace, CloseBrace, OpenParen, CloseParen, Semicolon, Comma, Dot, Equals, At, End}
 use Rattle.cfj_model.specs.declared.formula.Formula.{Formula}
+use Rattle.cfj_model.specs.ExpressionGrammar.{spell_expr, roles_expr}
 use Rattle.cfj_model.specs.FormulaGrammar.{IffTree, spell_iff, roles_iff, value_iff}
-use Rattle.cfj_model.specs.Grammar.{Declared, Named, MethodTree, ClassTree, constraint_word, features_word, spell_name, spell_features, spell_field, spell_param, spell_sent, spell_assign, spell_ctor, spell_method, spell_constraint, spell_class, spell, numbered, value_field, value_param, value_sent, value_method, value_class}
+use Rattle.cfj_model.specs.Grammar.{Declared, Named, MethodTree, ClassTree, Tree, constraint_word, features_word, spell_name, spell_features, spell_field, spell_param, spell_sent, spell_assign, spell_ctor, spell_method, spell_constraint, spell_class, spell, numbered, value_field, value_param, value_sent, value_ctor, value_method, value_class}
 use Rattle.cfj_model.specs.Marks.{in_order, each_behind, separated, spell_marks, roles_mark, roles_marks, color_of, colored, colors_of}
-use Rattle.cfj_model.specs.Roles.{Role, mark_name, class_name, assigned_name, used_name, plain}
-use Rattle.cfj_model.specs.TreeRoles.{roles_feature, roles_features, roles_field, roles_param, roles_sent, roles_assign, roles_ctor, roles_method, roles_constraint, roles_class, roles}
+use Rattle.cfj_model.specs.Roles.{Role, mark_name, class_name, method_name, assigned_name, used_name, plain}
+use Rattle.cfj_model.specs.TreeRoles.{roles_feature, roles_features, roles_field, roles_param, roles_method_param, roles_sent, roles_assign, roles_ctor, roles_method, roles_constraint, roles_class, roles}
 use Rattle.formula_reader.specs.Machine as formula
 use Rattle.formula_reader.specs.declared.mode.Mode as formula_mode
 use Rattle.formula_reader.specs.declared.mode.Mode.TheVariants.{Want, After, Done}
 use Rattle.formula_reader.proofs.Leads.{Leads, last, more, formula_leads}
 use Rattle.formula_reader.proofs.Texts.{spell_iff_append, roles_iff_append}
-use Rattle.fj_parser.specs.Built.{AreNone, HaveNoMethods, BuiltTree}
+use Rattle.expression_reader.specs.Machine as expression
+use Rattle.fj_parser.specs.declared.mode.Owner.{Owner}
+use Rattle.fj_parser.specs.declared.mode.Owner.TheVariants as owner
 use Rattle.fj_parser.specs.declared.mode.Node.{Node}
 use Rattle.fj_parser.specs.declared.mode.Node.TheVariants as node
 use Rattle.fj_parser.specs.declared.mode.Mode.{Mode}
-use Rattle.fj_parser.specs.declared.mode.Mode.TheVariants.{Begin, AfterFeatures, AfterFeature, Start, InConstraint, BetweenClasses, AfterAt, AfterMark, AfterClass, InMembers, InParams, AfterParamComma, AfterParam, AfterParams, InSends, AfterSendComma, AfterSend, AfterSends, InAssigns, AfterThis, AfterSecondName, AfterCtor, AtEnd}
-use Rattle.fj_parser.specs.Machine.{unnamed, State, behind, before_classes, start, class_of, to, after_formula, in_formula, opens_constraint, step_in, run}
+use Rattle.fj_parser.specs.declared.mode.Mode.TheVariants.{Begin, AfterFeatures, AfterFeature, Start, InConstraint, BetweenClasses, AfterAt, AfterMark, AfterClass, InMembers, InParams, AfterParamComma, AfterParam, AfterParams, InSends, AfterSendComma, AfterSend, AfterSends, InAssigns, AfterThis, AfterSecondName, InMethods, AfterResult, AtEnd}
+use Rattle.fj_parser.specs.Machine.{unnamed, State, behind, before_classes, start, to, after_formula, in_formula, opens_constraint, step_in, run}
 use Rattle.fj_parser.specs.Readers.{Run, then_run, run_of}
+use Rattle.fj_parser.proofs.Expressions.{expression_tree_runs}
 
 -- a run with more roles before its own
 abbrev pub with_roles : (List Role → List Role) → Run State → Run State
@@ -46,7 +50,8 @@ numbered_on f before x xs =
 at_again : (n : Node) (s : State) → step_in (AfterMark n) s At ≡ to (AfterAt n) s
 at_again node.Class s = refl
 at_again node.Member s = refl
-at_again node.Param s = refl
+at_again node.Method s = refl
+at_again (node.Param o) s = refl
 at_again node.Send s = refl
 at_again node.Assign s = refl
 
@@ -69,17 +74,17 @@ first_mark_run n m ms ts s = ap (with_role (mark_name m)) (marks_run n ms ts (re
 abbrev in_members : State → State
 in_members s = record s { mode = InMembers; colors = 0; of = unnamed; last = unnamed }
 
-abbrev pub in_params : State → State
-in_params s = record s { mode = InParams; params = []; colors = 0; of = unnamed }
+abbrev pub in_params : Owner → State → State
+in_params o s = record s { mode = InParams o; params = []; colors = 0; of = unnamed }
 
-abbrev pub after_param_comma : State → State
-after_param_comma s = record s { mode = AfterParamComma; colors = 0; of = unnamed }
+abbrev pub after_param_comma : Owner → State → State
+after_param_comma o s = record s { mode = AfterParamComma o; colors = 0; of = unnamed }
 
-abbrev pub after_param : State → State
-after_param s = record s { mode = AfterParam; colors = 0; of = unnamed }
+abbrev pub after_param : Owner → State → State
+after_param o s = record s { mode = AfterParam o; colors = 0; of = unnamed }
 
-abbrev pub after_params : State → State
-after_params s = record s { mode = AfterParams; colors = 0; of = unnamed }
+abbrev pub after_params : Owner → State → State
+after_params o s = record s { mode = AfterParams o; colors = 0; of = unnamed }
 
 abbrev pub in_sends : State → State
 in_sends s = record s { mode = InSends; sends = []; colors = 0 }
@@ -123,35 +128,42 @@ fields_run (d ∷ ds) ts s =
     ∙ ap (with_roles (roles_field d)) (fields_run ds ts (with_a_field s d))
     ∙ ap (λ fs. with_roles (in_order roles_field (d ∷ ds)) (run ts (in_members (record s { fields = fs })))) (append_assoc s.fields (value_field s.features d ∷ []) (map (value_field s.features) ds))
 
+-- the roles of a parameter, by what it belongs to
+abbrev pub roles_param_of : Owner → Declared → List Role → List Role
+roles_param_of owner.Constructor = roles_param
+roles_param_of owner.Method = roles_method_param
+
 -- a parameter with these marks behind a comma
-param_run : (ms : List (List ℕ)) (of name : List ℕ) (ts : List Token) (s : State) → run (spell_param (record { marks = ms; of = of; name = name }) ts) (after_param_comma s) ≡ with_roles (roles_param (record { marks = ms; of = of; name = name })) (run ts (after_param (with_a_param s (record { marks = ms; of = of; name = name }))))
+param_run : (o : Owner) (ms : List (List ℕ)) (of name : List ℕ) (ts : List Token) (s : State) → run (spell_param (record { marks = ms; of = of; name = name }) ts) (after_param_comma o s) ≡ with_roles (roles_param_of o (record { marks = ms; of = of; name = name })) (run ts (after_param o (with_a_param s (record { marks = ms; of = of; name = name }))))
 unfolding run_of
-param_run [] of name ts s = refl
-param_run (m ∷ ms) of name ts s = ap (with_role plain) (first_mark_run node.Param m ms (Id of ∷ (Id name ∷ ts)) (after_param_comma s))
+param_run owner.Constructor [] of name ts s = refl
+param_run owner.Method [] of name ts s = refl
+param_run owner.Constructor (m ∷ ms) of name ts s = ap (with_role plain) (first_mark_run (node.Param owner.Constructor) m ms (Id of ∷ (Id name ∷ ts)) (after_param_comma owner.Constructor s))
+param_run owner.Method (m ∷ ms) of name ts s = ap (with_role plain) (first_mark_run (node.Param owner.Method) m ms (Id of ∷ (Id name ∷ ts)) (after_param_comma owner.Method s))
 
 -- the first parameter is read as one behind a comma
-first_param_run : (ms : List (List ℕ)) (of name : List ℕ) (ts : List Token) (s : State) → run (spell_param (record { marks = ms; of = of; name = name }) ts) (in_params s) ≡ run (spell_param (record { marks = ms; of = of; name = name }) ts) (after_param_comma (record s { params = [] }))
+first_param_run : (o : Owner) (ms : List (List ℕ)) (of name : List ℕ) (ts : List Token) (s : State) → run (spell_param (record { marks = ms; of = of; name = name }) ts) (in_params o s) ≡ run (spell_param (record { marks = ms; of = of; name = name }) ts) (after_param_comma o (record s { params = [] }))
 unfolding run_of
-first_param_run [] of name ts s = refl
-first_param_run (m ∷ ms) of name ts s = refl
+first_param_run o [] of name ts s = refl
+first_param_run o (m ∷ ms) of name ts s = refl
 
 -- the parameters after the first, and the bracket
-pub more_params_run : (ds : List Declared) (ts : List Token) (s : State) → run (each_behind Comma spell_param ds (CloseParen ∷ ts)) (after_param s) ≡ with_roles (λ rs. each_behind plain roles_param ds (plain ∷ rs)) (run ts (after_params (record s { params = s.params ++ numbered (value_param s.features) (length s.params) ds })))
+pub more_params_run : (o : Owner) (ds : List Declared) (ts : List Token) (s : State) → run (each_behind Comma spell_param ds (CloseParen ∷ ts)) (after_param o s) ≡ with_roles (λ rs. each_behind plain (roles_param_of o) ds (plain ∷ rs)) (run ts (after_params o (record s { params = s.params ++ numbered (value_param s.features) (length s.params) ds })))
 unfolding run_of
-more_params_run [] ts s = ap (λ ps. with_role plain (run ts (after_params (record s { params = ps })))) (sym (append-nil s.params))
-more_params_run (d ∷ ds) ts s =
-    ap (with_role plain) (param_run d.marks d.of d.name (each_behind Comma spell_param ds (CloseParen ∷ ts)) s)
-    ∙ ap (with_roles (λ rs. plain ∷ roles_param d rs)) (more_params_run ds ts (with_a_param s d))
-    ∙ ap (λ ps. with_roles (λ rs. each_behind plain roles_param (d ∷ ds) (plain ∷ rs)) (run ts (after_params (record s { params = ps })))) (numbered_on (value_param s.features) s.params d ds)
+more_params_run o [] ts s = ap (λ ps. with_role plain (run ts (after_params o (record s { params = ps })))) (sym (append-nil s.params))
+more_params_run o (d ∷ ds) ts s =
+    ap (with_role plain) (param_run o d.marks d.of d.name (each_behind Comma spell_param ds (CloseParen ∷ ts)) s)
+    ∙ ap (with_roles (λ rs. plain ∷ roles_param_of o d rs)) (more_params_run o ds ts (with_a_param s d))
+    ∙ ap (λ ps. with_roles (λ rs. each_behind plain (roles_param_of o) (d ∷ ds) (plain ∷ rs)) (run ts (after_params o (record s { params = ps })))) (numbered_on (value_param s.features) s.params d ds)
 
 -- list(param), and the bracket
-params_run : (ds : List Declared) (ts : List Token) (s : State) → run (separated Comma spell_param ds (CloseParen ∷ ts)) (in_params s) ≡ with_roles (λ rs. separated plain roles_param ds (plain ∷ rs)) (run ts (after_params (record s { params = numbered (value_param s.features) 0 ds })))
+params_run : (o : Owner) (ds : List Declared) (ts : List Token) (s : State) → run (separated Comma spell_param ds (CloseParen ∷ ts)) (in_params o s) ≡ with_roles (λ rs. separated plain (roles_param_of o) ds (plain ∷ rs)) (run ts (after_params o (record s { params = numbered (value_param s.features) 0 ds })))
 unfolding run_of
-params_run [] ts s = refl
-params_run (d ∷ ds) ts s =
-    first_param_run d.marks d.of d.name (each_behind Comma spell_param ds (CloseParen ∷ ts)) s
-    ∙ param_run d.marks d.of d.name (each_behind Comma spell_param ds (CloseParen ∷ ts)) (record s { params = [] })
-    ∙ ap (with_roles (roles_param d)) (more_params_run ds ts (record s { params = value_param s.features 0 d ∷ [] }))
+params_run o [] ts s = refl
+params_run o (d ∷ ds) ts s =
+    first_param_run o d.marks d.of d.name (each_behind Comma spell_param ds (CloseParen ∷ ts)) s
+    ∙ param_run o d.marks d.of d.name (each_behind Comma spell_param ds (CloseParen ∷ ts)) (record s { params = [] })
+    ∙ ap (with_roles (roles_param_of o d)) (more_params_run o ds ts (record s { params = value_param s.features 0 d ∷ [] }))
 
 -- a sent name with these marks behind a comma
 sent_run : (ms : List (List ℕ)) (name : List ℕ) (ts : List Token) (s : State) → run (spell_sent (record { marks = ms; name = name }) ts) (after_send_comma s) ≡ with_roles (roles_sent (record { marks = ms; name = name })) (run ts (after_send (with_a_sent s (record { marks = ms; name = name }))))
@@ -208,10 +220,10 @@ assigns_run (d ∷ ds) ts s =
 
 -- the states of a constructor: before its body, and behind it
 abbrev before_body : ClassTree → State → State
-before_body k s = record s { mode = AfterParams; params = numbered (value_param s.features) 0 k.params; sends = []; assigns = []; colors = 0; of = unnamed; last = unnamed }
+before_body k s = record s { mode = AfterParams owner.Constructor; params = numbered (value_param s.features) 0 k.params; sends = []; assigns = []; colors = 0; of = unnamed; last = unnamed }
 
 abbrev pub behind_ctor : ClassTree → State → State
-behind_ctor k s = record s { mode = AfterCtor; params = numbered (value_param s.features) 0 k.params; sends = numbered (value_sent s.features) 0 k.sends; assigns = numbered (value_sent s.features) 0 k.assigns; colors = 0; of = unnamed; last = unnamed }
+behind_ctor k s = record s { mode = InMethods; params = []; sends = []; assigns = []; ctor = value_ctor s.features k; colors = 0; of = unnamed; last = unnamed }
 
 -- the constructor from its body on
 body_run : (k : ClassTree) (ts : List Token) (s : State) → run (OpenBrace ∷ (SuperWord ∷ (OpenParen ∷ separated Comma spell_sent k.sends (CloseParen ∷ (Semicolon ∷ in_order spell_assign k.assigns (CloseBrace ∷ ts)))))) (before_body k s) ≡ with_roles (λ rs. plain ∷ (plain ∷ (plain ∷ separated plain roles_sent k.sends (plain ∷ (plain ∷ in_order roles_assign k.assigns (plain ∷ rs)))))) (run ts (behind_ctor k s))
@@ -229,9 +241,9 @@ ctor_run : (k : ClassTree) (ts : List Token) (s : State) → run (spell_ctor k t
 unfolding run_of
 ctor_run k ts s =
     let body : List Token = OpenBrace ∷ (SuperWord ∷ (OpenParen ∷ separated Comma spell_sent k.sends (CloseParen ∷ (Semicolon ∷ in_order spell_assign k.assigns (CloseBrace ∷ ts))))) in
-    let n : State = record s { mode = InParams; name = k.name; params = []; sends = []; assigns = []; colors = 0; of = unnamed; last = unnamed } in
+    let n : State = record s { mode = InParams owner.Constructor; name = k.name; params = []; sends = []; assigns = []; colors = 0; of = unnamed; last = unnamed } in
     ap (λ b. with_role (used_name k.name) (then_run (run (separated Comma spell_param k.params (CloseParen ∷ body))) (plain ∷ []) (if b then Some n else None))) (same_name k.name)
-    ∙ ap (with_roles (λ rs. used_name k.name ∷ (plain ∷ rs))) (params_run k.params body n)
+    ∙ ap (with_roles (λ rs. used_name k.name ∷ (plain ∷ rs))) (params_run owner.Constructor k.params body n)
     ∙ ap (with_roles (λ rs. used_name k.name ∷ (plain ∷ separated plain roles_param k.params (plain ∷ rs)))) (body_run k ts (record s { name = k.name }))
 
 -- {field} ctor
@@ -240,22 +252,62 @@ members_run ds k ts s =
     fields_run ds (spell_ctor k ts) (named k.name s)
     ∙ ap (with_roles (in_order roles_field ds)) (ctor_run k ts (record s { fields = s.fields ++ map (value_field s.features) ds }))
 
+-- ---- methods
+
+-- between methods
+abbrev pub in_methods : State → State
+in_methods s = record s { mode = InMethods; params = []; method_colors = 0; result_type = unnamed; method = unnamed; expression = expression.start; colors = 0; of = unnamed }
+
+-- one more method in hand
+abbrev pub with_a_method : State → MethodTree → State
+with_a_method s m = record s { methods = s.methods ++ value_method s.features m ∷ [] }
+
+-- a method behind its name, and behind the type of its result
+abbrev pub method_rest : MethodTree → List Token → List Token
+method_rest m ts = separated Comma spell_param m.params (CloseParen ∷ (OpenBrace ∷ (ReturnWord ∷ spell_expr m.body (Semicolon ∷ (CloseBrace ∷ ts)))))
+
+abbrev pub roles_method_rest : MethodTree → List Role → List Role
+roles_method_rest m rs = separated plain roles_method_param m.params (plain ∷ (plain ∷ (plain ∷ roles_expr 0 m.body (plain ∷ (plain ∷ rs)))))
+
+-- a method's words behind the first, with its colours in hand
+method_words_run : (m : MethodTree) (colors : ℕ) (ts : List Token) (s : State) → run (Id m.name ∷ (OpenParen ∷ method_rest m ts)) (record (in_methods s) { mode = AfterResult; colors = colors; of = m.result }) ≡ with_roles (λ rs. method_name m.name ∷ (plain ∷ roles_method_rest m rs)) (run ts (in_methods (record s { methods = s.methods ++ record (value_method s.features m) { colors = colors } ∷ [] })))
+unfolding run_of
+method_words_run m colors ts s =
+    let n : State = record (in_methods s) { method_colors = colors; result_type = m.result; method = m.name } in
+    ap (with_roles (λ rs. method_name m.name ∷ (plain ∷ rs)))
+    (params_run owner.Method m.params (OpenBrace ∷ (ReturnWord ∷ spell_expr m.body (Semicolon ∷ (CloseBrace ∷ ts)))) n
+    ∙ ap (with_roles (λ rs. separated plain roles_method_param m.params (plain ∷ (plain ∷ (plain ∷ rs))))) (expression_tree_runs m.body (CloseBrace ∷ ts) (record n { params = numbered (value_param s.features) 0 m.params })))
+
+-- a method's marks and its first word
+method_marks_run : (ms : List (List ℕ)) (w : List ℕ) (ts : List Token) (s : State) → run (spell_marks ms (Id w ∷ ts)) (in_methods s) ≡ with_roles (λ rs. roles_marks ms (used_name w ∷ rs)) (run ts (record (in_methods s) { mode = AfterResult; colors = colors_of s.features ms; of = w }))
+unfolding run_of
+method_marks_run [] w ts s = refl
+method_marks_run (m ∷ ms) w ts s = ap (with_role plain) (first_mark_run node.Method m ms (Id w ∷ ts) (in_methods s))
+
+-- method
+pub method_run : (m : MethodTree) (ts : List Token) (s : State) → run (spell_method m ts) (in_methods s) ≡ with_roles (roles_method m) (run ts (in_methods (with_a_method s m)))
+method_run m ts s =
+    method_marks_run m.marks m.result (Id m.name ∷ (OpenParen ∷ method_rest m ts)) s
+    ∙ ap (with_roles (λ rs. roles_marks m.marks (used_name m.result ∷ rs))) (method_words_run m (colors_of s.features m.marks) ts s)
+
+-- {method}
+pub methods_run : (ms : List MethodTree) (ts : List Token) (s : State) → run (in_order spell_method ms ts) (in_methods s) ≡ with_roles (in_order roles_method ms) (run ts (in_methods (record s { methods = s.methods ++ map (value_method s.features) ms })))
+methods_run [] ts s = ap (λ all. run ts (in_methods (record s { methods = all }))) (sym (append-nil s.methods))
+methods_run (m ∷ ms) ts s =
+    method_run m (in_order spell_method ms ts) s
+    ∙ ap (with_roles (roles_method m)) (methods_run ms ts (with_a_method s m))
+    ∙ ap (λ all. with_roles (in_order roles_method (m ∷ ms)) (run ts (in_methods (record s { methods = all })))) (append_assoc s.methods (value_method s.features m ∷ []) (map (value_method s.features) ms))
+
 -- ---- classes
 
--- {method}, where there is none
-methods_run : (k : ClassTree) (ms : List MethodTree) → AreNone ms → (ts : List Token) (s : State) → run (in_order spell_method ms (CloseBrace ∷ ts)) (record s { mode = AfterCtor }) ≡ with_roles (λ rs. in_order roles_method ms (plain ∷ rs)) (run ts (record (behind s.features s.constraints (s.classes ++ record (class_of s) { methods = map (value_method s.features) ms } ∷ [])) { formula = s.formula }))
-unfolding run_of
-methods_run k [] none ts s = refl
-methods_run k (m ∷ ms) none ts s = absurd none
-
 -- a class behind its first word, with its colours in hand
-class_words_run : (k : ClassTree) → AreNone k.methods → (colors : ℕ) (ts : List Token) (fs : List (List ℕ)) (gs : List Formula) (cs : List Class) → run (Id k.name ∷ (ExtendsWord ∷ (Id k.parent ∷ (OpenBrace ∷ in_order spell_field k.fields (spell_ctor k (in_order spell_method k.methods (CloseBrace ∷ ts))))))) (record (behind fs gs cs) { mode = AfterClass; class_colors = colors }) ≡ with_roles (λ rs. class_name k.name ∷ (plain ∷ (used_name k.parent ∷ (plain ∷ in_order roles_field k.fields (roles_ctor k (in_order roles_method k.methods (plain ∷ rs))))))) (run ts (behind fs gs (cs ++ record (value_class fs k) { colors = colors } ∷ [])))
+class_words_run : (k : ClassTree) (colors : ℕ) (ts : List Token) (fs : List (List ℕ)) (gs : List Formula) (cs : List Class) → run (Id k.name ∷ (ExtendsWord ∷ (Id k.parent ∷ (OpenBrace ∷ in_order spell_field k.fields (spell_ctor k (in_order spell_method k.methods (CloseBrace ∷ ts))))))) (record (behind fs gs cs) { mode = AfterClass; class_colors = colors }) ≡ with_roles (λ rs. class_name k.name ∷ (plain ∷ (used_name k.parent ∷ (plain ∷ in_order roles_field k.fields (roles_ctor k (in_order roles_method k.methods (plain ∷ rs))))))) (run ts (behind fs gs (cs ++ record (value_class fs k) { colors = colors } ∷ [])))
 unfolding run_of
-class_words_run k none colors ts fs gs cs =
+class_words_run k colors ts fs gs cs =
     let n : State = record (behind fs gs cs) { class_colors = colors; parent = k.parent } in
     ap (with_roles (λ rs. class_name k.name ∷ (plain ∷ (used_name k.parent ∷ (plain ∷ rs)))))
     (members_run k.fields k (in_order spell_method k.methods (CloseBrace ∷ ts)) n
-    ∙ ap (with_roles (λ rs. in_order roles_field k.fields (roles_ctor k rs))) (methods_run k k.methods none ts (behind_ctor k (record n { name = k.name; fields = map (value_field fs) k.fields }))))
+    ∙ ap (with_roles (λ rs. in_order roles_field k.fields (roles_ctor k rs))) (methods_run k.methods (CloseBrace ∷ ts) (behind_ctor k (record n { name = k.name; fields = map (value_field fs) k.fields }))))
 
 -- a class's marks and its first word
 class_marks_run : (ms : List (List ℕ)) (ts : List Token) (fs : List (List ℕ)) (gs : List Formula) (cs : List Class) → run (spell_marks ms (ClassWord ∷ ts)) (behind fs gs cs) ≡ with_roles (λ rs. roles_marks ms (plain ∷ rs)) (run ts (record (behind fs gs cs) { mode = AfterClass; class_colors = colors_of fs ms }))
@@ -268,17 +320,17 @@ abbrev class_text : ClassTree → List Token → List Token
 class_text k ts = Id k.name ∷ (ExtendsWord ∷ (Id k.parent ∷ (OpenBrace ∷ in_order spell_field k.fields (spell_ctor k (in_order spell_method k.methods (CloseBrace ∷ ts))))))
 
 -- class
-class_run : (k : ClassTree) → AreNone k.methods → (ts : List Token) (fs : List (List ℕ)) (gs : List Formula) (cs : List Class) → run (spell_class k ts) (behind fs gs cs) ≡ with_roles (roles_class k) (run ts (behind fs gs (cs ++ value_class fs k ∷ [])))
-class_run k none ts fs gs cs =
+class_run : (k : ClassTree) (ts : List Token) (fs : List (List ℕ)) (gs : List Formula) (cs : List Class) → run (spell_class k ts) (behind fs gs cs) ≡ with_roles (roles_class k) (run ts (behind fs gs (cs ++ value_class fs k ∷ [])))
+class_run k ts fs gs cs =
     class_marks_run k.marks (class_text k ts) fs gs cs
-    ∙ ap (with_roles (λ rs. roles_marks k.marks (plain ∷ rs))) (class_words_run k none (colors_of fs k.marks) ts fs gs cs)
+    ∙ ap (with_roles (λ rs. roles_marks k.marks (plain ∷ rs))) (class_words_run k (colors_of fs k.marks) ts fs gs cs)
 
 -- {class}
-classes_run_on : (ks : List ClassTree) → HaveNoMethods ks → (ts : List Token) (fs : List (List ℕ)) (gs : List Formula) (cs : List Class) → run (in_order spell_class ks ts) (behind fs gs cs) ≡ with_roles (in_order roles_class ks) (run ts (behind fs gs (cs ++ map (value_class fs) ks)))
-classes_run_on [] none ts fs gs cs = ap (λ all. run ts (behind fs gs all)) (sym (append-nil cs))
-classes_run_on (k ∷ ks) none ts fs gs cs =
-    class_run k none.0 (in_order spell_class ks ts) fs gs cs
-    ∙ ap (with_roles (roles_class k)) (classes_run_on ks none.1 ts fs gs (cs ++ value_class fs k ∷ []))
+classes_run_on : (ks : List ClassTree) (ts : List Token) (fs : List (List ℕ)) (gs : List Formula) (cs : List Class) → run (in_order spell_class ks ts) (behind fs gs cs) ≡ with_roles (in_order roles_class ks) (run ts (behind fs gs (cs ++ map (value_class fs) ks)))
+classes_run_on [] ts fs gs cs = ap (λ all. run ts (behind fs gs all)) (sym (append-nil cs))
+classes_run_on (k ∷ ks) ts fs gs cs =
+    class_run k (in_order spell_class ks ts) fs gs cs
+    ∙ ap (with_roles (roles_class k)) (classes_run_on ks ts fs gs (cs ++ value_class fs k ∷ []))
     ∙ ap (λ all. with_roles (in_order roles_class (k ∷ ks)) (run ts (behind fs gs all))) (append_assoc cs (value_class fs k ∷ []) (map (value_class fs) ks))
 
 -- ---- the feature line
@@ -382,36 +434,36 @@ abbrev pub behind_all : List (List ℕ) → List IffTree → List ClassTree → 
 behind_all fs xs ks = record (behind fs (map (value_iff fs) xs) (map (value_class fs) ks)) { mode = mode_behind fs xs ks }
 
 -- the classes behind a feature line, and behind a constraint
-behind_features : (f : List ℕ) (fs : List (List ℕ)) (xs : List IffTree) (ks : List ClassTree) → HaveNoMethods ks → (ts : List Token) → run (in_order spell_class ks ts) (before_classes (f ∷ fs) (map (value_iff (f ∷ fs)) xs)) ≡ with_roles (in_order roles_class ks) (run ts (behind_all (f ∷ fs) xs ks))
-behind_features f fs xs [] none ts = refl
-behind_features f fs xs (k ∷ ks) none ts =
+behind_features : (f : List ℕ) (fs : List (List ℕ)) (xs : List IffTree) (ks : List ClassTree) (ts : List Token) → run (in_order spell_class ks ts) (before_classes (f ∷ fs) (map (value_iff (f ∷ fs)) xs)) ≡ with_roles (in_order roles_class ks) (run ts (behind_all (f ∷ fs) xs ks))
+behind_features f fs xs [] ts = refl
+behind_features f fs xs (k ∷ ks) ts =
     first_class_run k.marks (class_text k (in_order spell_class ks ts)) (f ∷ fs) (map (value_iff (f ∷ fs)) xs)
-    ∙ classes_run_on (k ∷ ks) none ts (f ∷ fs) (map (value_iff (f ∷ fs)) xs) []
+    ∙ classes_run_on (k ∷ ks) ts (f ∷ fs) (map (value_iff (f ∷ fs)) xs) []
 
-behind_constraint : (x : IffTree) (xs : List IffTree) (ks : List ClassTree) → HaveNoMethods ks → (ts : List Token) → run (in_order spell_class ks ts) (before_classes [] (map (value_iff []) (x ∷ xs))) ≡ with_roles (in_order roles_class ks) (run ts (behind_all [] (x ∷ xs) ks))
-behind_constraint x xs [] none ts = refl
-behind_constraint x xs (k ∷ ks) none ts =
+behind_constraint : (x : IffTree) (xs : List IffTree) (ks : List ClassTree) (ts : List Token) → run (in_order spell_class ks ts) (before_classes [] (map (value_iff []) (x ∷ xs))) ≡ with_roles (in_order roles_class ks) (run ts (behind_all [] (x ∷ xs) ks))
+behind_constraint x xs [] ts = refl
+behind_constraint x xs (k ∷ ks) ts =
     first_class_run k.marks (class_text k (in_order spell_class ks ts)) [] (map (value_iff []) (x ∷ xs))
-    ∙ classes_run_on (k ∷ ks) none ts [] (map (value_iff []) (x ∷ xs)) []
+    ∙ classes_run_on (k ∷ ks) ts [] (map (value_iff []) (x ∷ xs)) []
 
 -- a tree, and more
-parts_run : (fs : List (List ℕ)) (xs : List IffTree) (ks : List ClassTree) → HaveNoMethods ks → (ts : List Token) → run (spell_features fs (in_order spell_constraint xs (in_order spell_class ks ts))) start ≡ with_roles (λ rs. roles_features fs (in_order roles_constraint xs (in_order roles_class ks rs))) (run ts (behind_all fs xs ks))
-parts_run [] [] [] none ts = refl
-parts_run [] [] (k ∷ ks) none ts = begins_class k.marks (class_text k (in_order spell_class ks ts)) ∙ classes_run_on (k ∷ ks) none ts [] [] []
-parts_run [] (x ∷ xs) ks none ts =
+parts_run : (fs : List (List ℕ)) (xs : List IffTree) (ks : List ClassTree) (ts : List Token) → run (spell_features fs (in_order spell_constraint xs (in_order spell_class ks ts))) start ≡ with_roles (λ rs. roles_features fs (in_order roles_constraint xs (in_order roles_class ks rs))) (run ts (behind_all fs xs ks))
+parts_run [] [] [] ts = refl
+parts_run [] [] (k ∷ ks) ts = begins_class k.marks (class_text k (in_order spell_class ks ts)) ∙ classes_run_on (k ∷ ks) ts [] [] []
+parts_run [] (x ∷ xs) ks ts =
     first_constraint_run x (in_order spell_constraint xs (in_order spell_class ks ts))
     ∙ constraints_run (x ∷ xs) (in_order spell_class ks ts) [] []
-    ∙ ap (with_roles (in_order roles_constraint (x ∷ xs))) (behind_constraint x xs ks none ts)
-parts_run (f ∷ fs) xs ks none ts =
+    ∙ ap (with_roles (in_order roles_constraint (x ∷ xs))) (behind_constraint x xs ks ts)
+parts_run (f ∷ fs) xs ks ts =
     features_run f fs (in_order spell_constraint xs (in_order spell_class ks ts))
     ∙ ap (with_roles (roles_features (f ∷ fs))) (constraints_run xs (in_order spell_class ks ts) (f ∷ fs) [])
-    ∙ ap (with_roles (λ rs. roles_features (f ∷ fs) (in_order roles_constraint xs rs))) (behind_features f fs xs ks none ts)
+    ∙ ap (with_roles (λ rs. roles_features (f ∷ fs) (in_order roles_constraint xs rs))) (behind_features f fs xs ks ts)
 
-tree_run : (x : BuiltTree) (ts : List Token) → run (spell x.tree ts) start ≡ with_roles (roles x.tree) (run ts (behind_all x.tree.features x.tree.constraints x.tree.classes))
-tree_run x ts = parts_run x.tree.features x.tree.constraints x.tree.classes x.no_methods ts
+tree_run : (x : Tree) (ts : List Token) → run (spell x ts) start ≡ with_roles (roles x) (run ts (behind_all x.features x.constraints x.classes))
+tree_run x ts = parts_run x.features x.constraints x.classes ts
 
 -- the tokens of a tree are read, in the tree's roles, to the tree's value
-pub classes_run : (x : BuiltTree) → run (spell x.tree []) start ≡ (Some (behind_all x.tree.features x.tree.constraints x.tree.classes), roles x.tree [])
+pub classes_run : (x : Tree) → run (spell x []) start ≡ (Some (behind_all x.features x.constraints x.classes), roles x [])
 unfolding run_of
 classes_run x = tree_run x []
 
@@ -424,9 +476,9 @@ end_run [] (x ∷ xs) [] = refl
 end_run fs xs (k ∷ ks) = refl
 
 -- the state behind a tree and the end of the text
-abbrev pub ended : BuiltTree → State
-ended x = record (behind_all x.tree.features x.tree.constraints x.tree.classes) { mode = AtEnd }
+abbrev pub ended : Tree → State
+ended x = record (behind_all x.features x.constraints x.classes) { mode = AtEnd }
 
 -- and so is the whole text
-pub text_runs : (x : BuiltTree) → run (spell x.tree (End ∷ [])) start ≡ (Some (ended x), roles x.tree (plain ∷ []))
-text_runs x = tree_run x (End ∷ []) ∙ ap (with_roles (roles x.tree)) (end_run x.tree.features x.tree.constraints x.tree.classes)
+pub text_runs : (x : Tree) → run (spell x (End ∷ [])) start ≡ (Some (ended x), roles x (plain ∷ []))
+text_runs x = tree_run x (End ∷ []) ∙ ap (with_roles (roles x)) (end_run x.features x.constraints x.classes)

@@ -2,6 +2,7 @@ pub mod Accepted
 pub mod Complete
 pub mod Counted
 pub mod Exact
+pub mod Expressions
 pub mod FirstFault
 pub mod Kept
 pub mod Law

@@ -1,13 +1,15 @@
 -- What follows a tree's tokens, or its roles, stands behind them.
 use Rattle.std.proofs.Common.{◌≡◌, true, List, [], ◌∷◌, ◌++◌, ℕ, ◌+◌, refl, sym, ap, ◌∙◌}
-use Rattle.cfj_model.specs.Tokens.{Token, Id, ClassWord, ExtendsWord, SuperWord, ThisWord, OpenBrace, CloseBrace, OpenParen, CloseParen, Semicolon, Comma, Dot, Equals}
-use Rattle.cfj_model.specs.Grammar.{Declared, Named, MethodTree, ClassTree, constraint_word, features_word, spell_name, spell_features, spell_field, spell_param, spell_sent, spell_assign, spell_ctor, spell_method, spell_constraint, spell_class, spell}
+use Rattle.cfj_model.specs.Tokens.{Token, Id, ClassWord, ExtendsWord, SuperWord, ThisWord, ReturnWord, OpenBrace, CloseBrace, OpenParen, CloseParen, Semicolon, Comma, Dot, Equals}
+use Rattle.cfj_model.specs.Grammar.{Declared, Named, MethodTree, ClassTree, Tree, constraint_word, features_word, spell_name, spell_features, spell_field, spell_param, spell_sent, spell_assign, spell_ctor, spell_method, spell_constraint, spell_class, spell}
+use Rattle.cfj_model.specs.Faults.{projects, single_classes}
+use Rattle.cfj_model.specs.ExpressionGrammar.{spell_expr, roles_expr}
 use Rattle.cfj_model.specs.FormulaGrammar.{IffTree, one_implies, iff, ImpliesTree, one_or, implies, OrTree, one_and, or, AndTree, one_unary, and, UnaryTree, negated, named, true_word, false_word, bracketed, roles_iff, roles_implies, roles_or, roles_and, roles_unary}
 use Rattle.formula_reader.proofs.Texts.{spell_iff_append, roles_iff_append}
+use Rattle.expression_reader.proofs.Composing as expression
 use Rattle.cfj_model.specs.Marks.{in_order, each_behind, separated, spell_mark, spell_marks, roles_mark, roles_marks}
-use Rattle.cfj_model.specs.Roles.{Role, feature_name, class_name, field_name, param_name, sent_name, assigned_name, used_name, formula_node, formula_opens, plain, are_settled}
-use Rattle.cfj_model.specs.TreeRoles.{roles_feature, roles_features, roles_field, roles_param, roles_sent, roles_assign, roles_ctor, roles_method, roles_constraint, roles_class, roles}
-use Rattle.fj_parser.specs.Built.{AreNone, HaveNoMethods, BuiltTree, built}
+use Rattle.cfj_model.specs.Roles.{Role, feature_name, class_name, field_name, method_name, param_name, method_param_name, sent_name, assigned_name, used_name, formula_node, formula_opens, plain, are_settled}
+use Rattle.cfj_model.specs.TreeRoles.{roles_feature, roles_features, roles_field, roles_param, roles_method_param, roles_sent, roles_assign, roles_ctor, roles_method, roles_constraint, roles_class, roles}
 use Rattle.fj_parser.specs.Laws.{IsPlainLanguage}
 
 -- ---- lists of parts
@@ -70,40 +72,48 @@ ctor_before k a b =
     (ap (λ ts. separated Comma spell_param k.params (CloseParen ∷ ts)) (body_before k a b)
     ∙ separated_before Comma spell_param param_before k.params (CloseParen ∷ body k a) b)
 
-methods_before : (ms : List MethodTree) → AreNone ms → (a b : List Token) → in_order spell_method ms (a ++ b) ≡ in_order spell_method ms a ++ b
-methods_before [] none a b = refl
-methods_before (m ∷ ms) none a b = absurd none
+-- a method behind its parameters, and behind its marks
+abbrev returned : MethodTree → List Token → List Token
+returned m rest = OpenBrace ∷ (ReturnWord ∷ spell_expr m.body (Semicolon ∷ (CloseBrace ∷ rest)))
+
+abbrev method_words : MethodTree → List Token → List Token
+method_words m rest = Id m.result ∷ (Id m.name ∷ (OpenParen ∷ separated Comma spell_param m.params (CloseParen ∷ returned m rest)))
+
+returned_before : (m : MethodTree) (a b : List Token) → returned m (a ++ b) ≡ returned m a ++ b
+returned_before m a b = ap (λ ts. OpenBrace ∷ (ReturnWord ∷ ts)) (sym (expression.spell_before m.body (Semicolon ∷ (CloseBrace ∷ a)) b))
+
+method_before : (m : MethodTree) (a b : List Token) → spell_method m (a ++ b) ≡ spell_method m a ++ b
+method_before m a b =
+    ap (λ ts. spell_marks m.marks (Id m.result ∷ (Id m.name ∷ (OpenParen ∷ ts))))
+    (ap (λ ts. separated Comma spell_param m.params (CloseParen ∷ ts)) (returned_before m a b) ∙ separated_before Comma spell_param param_before m.params (CloseParen ∷ returned m a) b)
+    ∙ marks_before m.marks (method_words m a) b
 
 -- the members of a class, and its brace
 abbrev members : ClassTree → List Token → List Token
 members k rest = in_order spell_field k.fields (spell_ctor k (in_order spell_method k.methods (CloseBrace ∷ rest)))
 
-members_before : (k : ClassTree) → AreNone k.methods → (a b : List Token) → members k (a ++ b) ≡ members k a ++ b
-members_before k none a b =
-    ap (λ ts. in_order spell_field k.fields (spell_ctor k ts)) (methods_before k.methods none (CloseBrace ∷ a) b)
+members_before : (k : ClassTree) (a b : List Token) → members k (a ++ b) ≡ members k a ++ b
+members_before k a b =
+    ap (λ ts. in_order spell_field k.fields (spell_ctor k ts)) (in_order_before spell_method method_before k.methods (CloseBrace ∷ a) b)
     ∙ ap (in_order spell_field k.fields) (ctor_before k (in_order spell_method k.methods (CloseBrace ∷ a)) b)
     ∙ in_order_before spell_field field_before k.fields (spell_ctor k (in_order spell_method k.methods (CloseBrace ∷ a))) b
 
 abbrev head : ClassTree → List Token → List Token
 head k rest = ClassWord ∷ (Id k.name ∷ (ExtendsWord ∷ (Id k.parent ∷ (OpenBrace ∷ rest))))
 
-class_before : (k : ClassTree) → AreNone k.methods → (a b : List Token) → spell_class k (a ++ b) ≡ spell_class k a ++ b
-class_before k none a b = ap (λ ts. spell_marks k.marks (head k ts)) (members_before k none a b) ∙ marks_before k.marks (head k (members k a)) b
-
-classes_before : (ks : List ClassTree) → HaveNoMethods ks → (a b : List Token) → in_order spell_class ks (a ++ b) ≡ in_order spell_class ks a ++ b
-classes_before [] none a b = refl
-classes_before (k ∷ ks) none a b = ap (spell_class k) (classes_before ks none.1 a b) ∙ class_before k none.0 (in_order spell_class ks a) b
+class_before : (k : ClassTree) (a b : List Token) → spell_class k (a ++ b) ≡ spell_class k a ++ b
+class_before k a b = ap (λ ts. spell_marks k.marks (head k ts)) (members_before k a b) ∙ marks_before k.marks (head k (members k a)) b
 
 constraint_before : (x : IffTree) (a b : List Token) → spell_constraint x (a ++ b) ≡ spell_constraint x a ++ b
 constraint_before x a b = ap (λ ts. Id constraint_word ∷ ts) (sym (spell_iff_append x (Semicolon ∷ a) b))
 
 -- What follows a tree's tokens stands behind them.
-spell_before : (x : BuiltTree) (a b : List Token) → spell x.tree (a ++ b) ≡ spell x.tree a ++ b
+spell_before : (x : Tree) (a b : List Token) → spell x (a ++ b) ≡ spell x a ++ b
 spell_before x a b =
-    let constraints : List Token → List Token = in_order spell_constraint x.tree.constraints in
-    ap (λ ts. spell_features x.tree.features (constraints ts)) (classes_before x.tree.classes x.no_methods a b)
-    ∙ ap (spell_features x.tree.features) (in_order_before spell_constraint constraint_before x.tree.constraints (in_order spell_class x.tree.classes a) b)
-    ∙ features_before x.tree.features (constraints (in_order spell_class x.tree.classes a)) b
+    let constraints : List Token → List Token = in_order spell_constraint x.constraints in
+    ap (λ ts. spell_features x.features (constraints ts)) (in_order_before spell_class class_before x.classes a b)
+    ∙ ap (spell_features x.features) (in_order_before spell_constraint constraint_before x.constraints (in_order spell_class x.classes a) b)
+    ∙ features_before x.features (constraints (in_order spell_class x.classes a)) b
 
 -- ---- roles
 
@@ -141,97 +151,106 @@ ctor_roles_before k a b =
     (ap (λ rs. separated plain roles_param k.params (plain ∷ rs)) (body_roles_before k a b)
     ∙ separated_before plain roles_param param_roles_before k.params (plain ∷ body_roles k a) b)
 
-method_roles_before : (ms : List MethodTree) → AreNone ms → (a b : List Role) → in_order roles_method ms (a ++ b) ≡ in_order roles_method ms a ++ b
-method_roles_before [] none a b = refl
-method_roles_before (m ∷ ms) none a b = absurd none
+method_param_roles_before : (d : Declared) (a b : List Role) → roles_method_param d (a ++ b) ≡ roles_method_param d a ++ b
+method_param_roles_before d a b = mark_roles_before d.marks (used_name d.of ∷ (method_param_name d.name ∷ a)) b
+
+abbrev returned_roles : MethodTree → List Role → List Role
+returned_roles m rest = plain ∷ (plain ∷ roles_expr 0 m.body (plain ∷ (plain ∷ rest)))
+
+abbrev method_word_roles : MethodTree → List Role → List Role
+method_word_roles m rest = used_name m.result ∷ (method_name m.name ∷ (plain ∷ separated plain roles_method_param m.params (plain ∷ returned_roles m rest)))
+
+returned_roles_before : (m : MethodTree) (a b : List Role) → returned_roles m (a ++ b) ≡ returned_roles m a ++ b
+returned_roles_before m a b = ap (λ rs. plain ∷ (plain ∷ rs)) (sym (expression.roles_before 0 m.body (plain ∷ (plain ∷ a)) b))
+
+method_roles_before : (m : MethodTree) (a b : List Role) → roles_method m (a ++ b) ≡ roles_method m a ++ b
+method_roles_before m a b =
+    ap (λ rs. roles_marks m.marks (used_name m.result ∷ (method_name m.name ∷ (plain ∷ rs))))
+    (ap (λ rs. separated plain roles_method_param m.params (plain ∷ rs)) (returned_roles_before m a b) ∙ separated_before plain roles_method_param method_param_roles_before m.params (plain ∷ returned_roles m a) b)
+    ∙ mark_roles_before m.marks (method_word_roles m a) b
 
 abbrev member_roles : ClassTree → List Role → List Role
 member_roles k rest = in_order roles_field k.fields (roles_ctor k (in_order roles_method k.methods (plain ∷ rest)))
 
-member_roles_before : (k : ClassTree) → AreNone k.methods → (a b : List Role) → member_roles k (a ++ b) ≡ member_roles k a ++ b
-member_roles_before k none a b =
-    ap (λ rs. in_order roles_field k.fields (roles_ctor k rs)) (method_roles_before k.methods none (plain ∷ a) b)
+member_roles_before : (k : ClassTree) (a b : List Role) → member_roles k (a ++ b) ≡ member_roles k a ++ b
+member_roles_before k a b =
+    ap (λ rs. in_order roles_field k.fields (roles_ctor k rs)) (in_order_before roles_method method_roles_before k.methods (plain ∷ a) b)
     ∙ ap (in_order roles_field k.fields) (ctor_roles_before k (in_order roles_method k.methods (plain ∷ a)) b)
     ∙ in_order_before roles_field field_roles_before k.fields (roles_ctor k (in_order roles_method k.methods (plain ∷ a))) b
 
 abbrev head_roles : ClassTree → List Role → List Role
 head_roles k rest = plain ∷ (class_name k.name ∷ (plain ∷ (used_name k.parent ∷ (plain ∷ rest))))
 
-class_roles_before : (k : ClassTree) → AreNone k.methods → (a b : List Role) → roles_class k (a ++ b) ≡ roles_class k a ++ b
-class_roles_before k none a b = ap (λ rs. roles_marks k.marks (head_roles k rs)) (member_roles_before k none a b) ∙ mark_roles_before k.marks (head_roles k (member_roles k a)) b
-
-classes_roles_before : (ks : List ClassTree) → HaveNoMethods ks → (a b : List Role) → in_order roles_class ks (a ++ b) ≡ in_order roles_class ks a ++ b
-classes_roles_before [] none a b = refl
-classes_roles_before (k ∷ ks) none a b = ap (roles_class k) (classes_roles_before ks none.1 a b) ∙ class_roles_before k none.0 (in_order roles_class ks a) b
+class_roles_before : (k : ClassTree) (a b : List Role) → roles_class k (a ++ b) ≡ roles_class k a ++ b
+class_roles_before k a b = ap (λ rs. roles_marks k.marks (head_roles k rs)) (member_roles_before k a b) ∙ mark_roles_before k.marks (head_roles k (member_roles k a)) b
 
 constraint_roles_before : (x : IffTree) (a b : List Role) → roles_constraint x (a ++ b) ≡ roles_constraint x a ++ b
 constraint_roles_before x a b = ap (λ rs. used_name constraint_word ∷ rs) (sym (roles_iff_append 0 x (plain ∷ a) b))
 
 -- What follows a tree's roles stands behind them.
-roles_before : (x : BuiltTree) (a b : List Role) → roles x.tree (a ++ b) ≡ roles x.tree a ++ b
+roles_before : (x : Tree) (a b : List Role) → roles x (a ++ b) ≡ roles x a ++ b
 roles_before x a b =
-    let constraints : List Role → List Role = in_order roles_constraint x.tree.constraints in
-    ap (λ rs. roles_features x.tree.features (constraints rs)) (classes_roles_before x.tree.classes x.no_methods a b)
-    ∙ ap (roles_features x.tree.features) (in_order_before roles_constraint constraint_roles_before x.tree.constraints (in_order roles_class x.tree.classes a) b)
-    ∙ feature_roles_before x.tree.features (constraints (in_order roles_class x.tree.classes a)) b
+    let constraints : List Role → List Role = in_order roles_constraint x.constraints in
+    ap (λ rs. roles_features x.features (constraints rs)) (in_order_before roles_class class_roles_before x.classes a b)
+    ∙ ap (roles_features x.features) (in_order_before roles_constraint constraint_roles_before x.constraints (in_order roles_class x.classes a) b)
+    ∙ feature_roles_before x.features (constraints (in_order roles_class x.classes a)) b
 
 -- ---- settled roles
 
 -- A part is settled where what follows is.
 abbrev AreSettled : {A : Type 0} → (A → List Role → List Role) → Type 0
-AreSettled {A} f = (x : A) (rest : List Role) → are_settled (f x rest) ≡ are_settled rest
+AreSettled {A} f = (x : A) (rest : List Role) → are_settled rest ≡ true → are_settled (f x rest) ≡ true
 
-in_order_settled : {A : Type 0} (f : A → List Role → List Role) → AreSettled f → (xs : List A) (rest : List Role) → are_settled (in_order f xs rest) ≡ are_settled rest
-in_order_settled f h [] rest = refl
-in_order_settled f h (x ∷ xs) rest = h x (in_order f xs rest) ∙ in_order_settled f h xs rest
+in_order_settled : {A : Type 0} (f : A → List Role → List Role) → AreSettled f → (xs : List A) (rest : List Role) → are_settled rest ≡ true → are_settled (in_order f xs rest) ≡ true
+in_order_settled f h [] rest e = e
+in_order_settled f h (x ∷ xs) rest e = h x (in_order f xs rest) (in_order_settled f h xs rest e)
 
-each_behind_settled : {A : Type 0} (f : A → List Role → List Role) → AreSettled f → (xs : List A) (rest : List Role) → are_settled (each_behind plain f xs rest) ≡ are_settled rest
-each_behind_settled f h [] rest = refl
-each_behind_settled f h (x ∷ xs) rest = h x (each_behind plain f xs rest) ∙ each_behind_settled f h xs rest
+each_behind_settled : {A : Type 0} (f : A → List Role → List Role) → AreSettled f → (xs : List A) (rest : List Role) → are_settled rest ≡ true → are_settled (each_behind plain f xs rest) ≡ true
+each_behind_settled f h [] rest e = e
+each_behind_settled f h (x ∷ xs) rest e = h x (each_behind plain f xs rest) (each_behind_settled f h xs rest e)
 
-separated_settled : {A : Type 0} (f : A → List Role → List Role) → AreSettled f → (xs : List A) (rest : List Role) → are_settled (separated plain f xs rest) ≡ are_settled rest
-separated_settled f h [] rest = refl
-separated_settled f h (x ∷ xs) rest = h x (each_behind plain f xs rest) ∙ each_behind_settled f h xs rest
+separated_settled : {A : Type 0} (f : A → List Role → List Role) → AreSettled f → (xs : List A) (rest : List Role) → are_settled rest ≡ true → are_settled (separated plain f xs rest) ≡ true
+separated_settled f h [] rest e = e
+separated_settled f h (x ∷ xs) rest e = h x (each_behind plain f xs rest) (each_behind_settled f h xs rest e)
 
-features_settled : (fs : List (List ℕ)) (rest : List Role) → are_settled (roles_features fs rest) ≡ are_settled rest
-features_settled [] rest = refl
-features_settled (f ∷ fs) rest = each_behind_settled roles_feature (λ w rs. refl) fs (plain ∷ rest)
+features_settled : (fs : List (List ℕ)) (rest : List Role) → are_settled rest ≡ true → are_settled (roles_features fs rest) ≡ true
+features_settled [] rest e = e
+features_settled (f ∷ fs) rest e = each_behind_settled roles_feature (λ w rs r. r) fs (plain ∷ rest) e
 
-marks_settled : (ms : List (List ℕ)) (rest : List Role) → are_settled (roles_marks ms rest) ≡ are_settled rest
-marks_settled = in_order_settled roles_mark (λ m rs. refl)
+marks_settled : (ms : List (List ℕ)) (rest : List Role) → are_settled rest ≡ true → are_settled (roles_marks ms rest) ≡ true
+marks_settled = in_order_settled roles_mark (λ m rs r. r)
 
-field_settled : (d : Declared) (rest : List Role) → are_settled (roles_field d rest) ≡ are_settled rest
-field_settled d rest = marks_settled d.marks (used_name d.of ∷ (field_name d.name ∷ (plain ∷ rest)))
+field_settled : (d : Declared) (rest : List Role) → are_settled rest ≡ true → are_settled (roles_field d rest) ≡ true
+field_settled d rest e = marks_settled d.marks (used_name d.of ∷ (field_name d.name ∷ (plain ∷ rest))) e
 
-param_settled : (d : Declared) (rest : List Role) → are_settled (roles_param d rest) ≡ are_settled rest
-param_settled d rest = marks_settled d.marks (used_name d.of ∷ (param_name d.name ∷ rest))
+param_settled : (d : Declared) (rest : List Role) → are_settled rest ≡ true → are_settled (roles_param d rest) ≡ true
+param_settled d rest e = marks_settled d.marks (used_name d.of ∷ (param_name d.name ∷ rest)) e
 
-sent_settled : (s : Named) (rest : List Role) → are_settled (roles_sent s rest) ≡ are_settled rest
-sent_settled s rest = marks_settled s.marks (sent_name s.name ∷ rest)
+method_param_settled : (d : Declared) (rest : List Role) → are_settled rest ≡ true → are_settled (roles_method_param d rest) ≡ true
+method_param_settled d rest e = marks_settled d.marks (used_name d.of ∷ (method_param_name d.name ∷ rest)) e
 
-assign_settled : (s : Named) (rest : List Role) → are_settled (roles_assign s rest) ≡ are_settled rest
-assign_settled s rest = marks_settled s.marks (plain ∷ (plain ∷ (assigned_name s.name ∷ (plain ∷ (used_name s.name ∷ (plain ∷ rest))))))
+sent_settled : (s : Named) (rest : List Role) → are_settled rest ≡ true → are_settled (roles_sent s rest) ≡ true
+sent_settled s rest e = marks_settled s.marks (sent_name s.name ∷ rest) e
 
-ctor_settled : (k : ClassTree) (rest : List Role) → are_settled (roles_ctor k rest) ≡ are_settled rest
-ctor_settled k rest =
+assign_settled : (s : Named) (rest : List Role) → are_settled rest ≡ true → are_settled (roles_assign s rest) ≡ true
+assign_settled s rest e = marks_settled s.marks (plain ∷ (plain ∷ (assigned_name s.name ∷ (plain ∷ (used_name s.name ∷ (plain ∷ rest)))))) e
+
+ctor_settled : (k : ClassTree) (rest : List Role) → are_settled rest ≡ true → are_settled (roles_ctor k rest) ≡ true
+ctor_settled k rest e =
     separated_settled roles_param param_settled k.params (plain ∷ body_roles k rest)
-    ∙ separated_settled roles_sent sent_settled k.sends (plain ∷ (plain ∷ in_order roles_assign k.assigns (plain ∷ rest)))
-    ∙ in_order_settled roles_assign assign_settled k.assigns (plain ∷ rest)
+    (separated_settled roles_sent sent_settled k.sends (plain ∷ (plain ∷ in_order roles_assign k.assigns (plain ∷ rest)))
+    (in_order_settled roles_assign assign_settled k.assigns (plain ∷ rest) e))
 
-methods_settled : (ms : List MethodTree) → AreNone ms → (rest : List Role) → are_settled (in_order roles_method ms rest) ≡ are_settled rest
-methods_settled [] none rest = refl
-methods_settled (m ∷ ms) none rest = absurd none
+method_settled : (m : MethodTree) (rest : List Role) → are_settled rest ≡ true → are_settled (roles_method m rest) ≡ true
+method_settled m rest e =
+    marks_settled m.marks (method_word_roles m rest)
+    (separated_settled roles_method_param method_param_settled m.params (plain ∷ returned_roles m rest) (expression.roles_settled 0 m.body (plain ∷ (plain ∷ rest)) e))
 
-class_settled : (k : ClassTree) → AreNone k.methods → (rest : List Role) → are_settled (roles_class k rest) ≡ are_settled rest
-class_settled k none rest =
+class_settled : (k : ClassTree) (rest : List Role) → are_settled rest ≡ true → are_settled (roles_class k rest) ≡ true
+class_settled k rest e =
     marks_settled k.marks (head_roles k (member_roles k rest))
-    ∙ in_order_settled roles_field field_settled k.fields (roles_ctor k (in_order roles_method k.methods (plain ∷ rest)))
-    ∙ ctor_settled k (in_order roles_method k.methods (plain ∷ rest))
-    ∙ methods_settled k.methods none (plain ∷ rest)
-
-classes_settled : (ks : List ClassTree) → HaveNoMethods ks → (rest : List Role) → are_settled (in_order roles_class ks rest) ≡ are_settled rest
-classes_settled [] none rest = refl
-classes_settled (k ∷ ks) none rest = class_settled k none.0 (in_order roles_class ks rest) ∙ classes_settled ks none.1 rest
+    (in_order_settled roles_field field_settled k.fields (roles_ctor k (in_order roles_method k.methods (plain ∷ rest)))
+    (ctor_settled k (in_order roles_method k.methods (plain ∷ rest)) (in_order_settled roles_method method_settled k.methods (plain ∷ rest) e)))
 
 -- A formula has no cast.
 mutual
@@ -258,15 +277,18 @@ mutual
   unary_settled d false_word rest = refl
   unary_settled d (bracketed x) rest = iff_settled (d + 1) x (plain ∷ rest)
 
-constraint_settled : (x : IffTree) (rest : List Role) → are_settled (roles_constraint x rest) ≡ are_settled rest
-constraint_settled x rest = iff_settled 0 x (plain ∷ rest)
+constraint_settled : (x : IffTree) (rest : List Role) → are_settled rest ≡ true → are_settled (roles_constraint x rest) ≡ true
+constraint_settled x rest e = iff_settled 0 x (plain ∷ rest) ∙ e
 
 -- A tree's roles are settled.
-roles_settled : (x : BuiltTree) → are_settled (roles x.tree []) ≡ true
+roles_settled : (x : Tree) → are_settled (roles x []) ≡ true
 roles_settled x =
-    features_settled x.tree.features (in_order roles_constraint x.tree.constraints (in_order roles_class x.tree.classes []))
-    ∙ in_order_settled roles_constraint constraint_settled x.tree.constraints (in_order roles_class x.tree.classes [])
-    ∙ classes_settled x.tree.classes x.no_methods []
+    features_settled x.features (in_order roles_constraint x.constraints (in_order roles_class x.classes []))
+    (in_order_settled roles_constraint constraint_settled x.constraints (in_order roles_class x.classes []) (in_order_settled roles_class class_settled x.classes [] refl))
 
-pub grammar_is_plain : IsPlainLanguage built
+pub grammar_is_plain : IsPlainLanguage projects
 grammar_is_plain = record { spells = spell_before; gives = roles_before; settled = roles_settled }
+
+-- The same holds of single classes.
+pub class_grammar_is_plain : (features : List (List ℕ)) → IsPlainLanguage (single_classes features)
+class_grammar_is_plain features = record { spells = class_before; gives = class_roles_before; settled = λ k. class_settled k [] refl }

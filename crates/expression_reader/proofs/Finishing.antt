@@ -1,10 +1,11 @@
--- How the roles that a run settles begin, where tokens wait.
-use Rattle.std.proofs.Common.{◌≡◌, ℕ, ◌+◌, ◌≤◌, true, false, List, [], ◌∷◌, ◌++◌, length, map, Some, refl, sym, ◌∙◌, ap, subst, arith}
+-- A run to the end: how its roles begin where tokens wait, and that it has an expression.
+use Rattle.std.proofs.Common.{◌≡◌, ℕ, ◌+◌, ◌≤◌, true, List, [], ◌∷◌, ◌++◌, length, Some, refl, sym, ◌∙◌, ap, subst, arith}
+use Rattle.cfj_model.specs.declared.expr.Expr.{Expr}
 use Rattle.cfj_model.specs.Tokens.{Token}
-use Rattle.cfj_model.specs.Roles.{Role, casts, are_settled}
+use Rattle.cfj_model.specs.Roles.{Role, casts}
 use Rattle.expression_reader.specs.declared.mode.Mode.{Mode}
-use Rattle.expression_reader.specs.declared.mode.Mode.TheVariants.{Paren, ParenName, ParenClosed}
-use Rattle.expression_reader.specs.Machine.{State, as_cast, open_frames, pending, pending_in, Run, run, is_read_whole, is_done}
+use Rattle.expression_reader.specs.declared.mode.Mode.TheVariants.{Paren, ParenName, ParenClosed, Done}
+use Rattle.expression_reader.specs.Machine.{State, open_frames, pending, pending_in, Run, run, is_read_whole, is_done, is_done_mode, expression, expression_in}
 use Rattle.expression_reader.proofs.Law.{Shown, a_bracket, a_cast, shown}
 use Rattle.expression_reader.proofs.Sound.{never}
 
@@ -33,3 +34,11 @@ pub waited_first : (features : List (List ℕ)) (ts : List Token) (s n : State) 
 waited_first features ts s n rs ran ended =
     let goes : is_read_whole (run features ts s).0 ≡ true = ap (λ (p : Run). is_read_whole p.0) ran ∙ ended in
     subst (Begun (pending s)) (ap (λ (p : Run). p.1) ran) (begun s.mode (open_frames s.frames) _ (shown features s.mode ts s.frames s.slot goes))
+
+-- Where the expression is read, there is one.
+pub has_expression : (s : State) → is_done s ≡ true → (x : Expr) × (expression s ≡ Some x)
+has_expression s e = by s.mode e
+  where
+    by : (m : Mode) → is_done_mode m ≡ true → (x : Expr) × (expression_in m ≡ Some x)
+    by (Done x) e = (x, refl)
+    by _ e = never e

@@ -1,12 +1,16 @@
 pub mod Accepted
+pub mod Behind
 pub mod Complete
 pub mod Counted
+pub mod CountedRoles
 pub mod Exact
 pub mod Expressions
 pub mod FirstFault
 pub mod Kept
 pub mod Law
 pub mod LexedTokens
+pub mod Named
+pub mod Places
 pub mod Progress
 pub mod Readers
 pub mod Sound

@@ -38,7 +38,7 @@ among (x ∷ xs) y (suc i) at e = go (among xs y i at e)
     go (before h few) = before h (omega arith)
     go (last h is) = last (ap suc h) is
 
-no_more : {A : Type 0} (xs : List A) → length xs ≡ 0 → xs ≡ []
+pub no_more : {A : Type 0} (xs : List A) → length xs ≡ 0 → xs ≡ []
 no_more [] h = refl
 no_more (x ∷ xs) h = absurd (omega arith)
 

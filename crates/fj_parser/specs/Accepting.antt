@@ -59,8 +59,8 @@ pub record IsToldAt (m : Reader) (s : m.State) (t : Tally) (places : List ℕ) (
 
 -- What becomes of a token at a place: it is taken, or refused.
 abbrev pub Outcome : (m : Reader) → m.State → Tally → List ℕ → Token → ℕ → m.State → Tally → Waiting → Option Refusal → Type 0
-Outcome m s t places token at n u waiting None = IsTaken m s t places token at n u (waiting_roles waiting) (waiting_places waiting)
-Outcome m s t places token at n u waiting (Some refusal) = IsToldAt m s t places token at refusal.at refusal.kind
+Outcome m s t places token at n u left None = IsTaken m s t places token at n u (waiting_roles left) (waiting_places left)
+Outcome m s t places token at n u left (Some refusal) = IsToldAt m s t places token at refusal.at refusal.kind
 
 -- What is told where no lexeme stands next: the fault of the first role that waits and breaks something, at its token's place; or
 -- the lexer's.

@@ -1,7 +1,5 @@
-ghost use Rattle.std.specs.Prelude.{◌≡◌, ◌∷◌, [], ◌++◌, true};
+ghost use Rattle.std.specs.Prelude.{◌≡◌, true};
 ghost use Rattle.cfj_model.specs.Names.{is_identifier};
-ghost use Rattle.fj_parser.specs.Waiting.{may_wait, waiting_left, waiting_places, waiting_roles};
-ghost use Rattle.fj_symbols.specs.Views.{is_identifier_role, role_seen};
 
 use cfj_model::FaultKind;
 use expression_reader::Settling;
@@ -36,6 +34,10 @@ pub enum Waiting<'a> {
 }
 
 impl<'a> Waiting<'a> {
+    ghost use Rattle.std.specs.Prelude.{◌∷◌, [], ◌++◌};
+    ghost use Rattle.fj_parser.specs.Waiting.{may_wait, waiting_left, waiting_places, waiting_roles};
+    ghost use Rattle.fj_symbols.specs.Views.{is_identifier_role, role_seen};
+
     /// What waits on.
     pub fn left(self, settling: Settling) -> Waiting<'a>
         ensures { result ≡ waiting_left settling.entry self.entry }

@@ -80,7 +80,7 @@ module _ {V : Type 0} (l : Language V) (m : Reader) (laws : Reads l m) where
   pub placed_more : (text rest : List ℕ) (s n : m.State) (t u : Tally) (places left : List ℕ) (x : Lexeme) (from next : List ℕ) (at : ℕ) → IsPlaced l m text rest s t places → next_lexeme (chars rest) ≡ Found x from (chars next) → at ≡ place_of text from → IsAccepted m s t (token_of x) n u → left ≡ drop (length (m.emitted s (token_of x))) (places ++ at ∷ []) → IsPlaced l m text next n u left
   placed_more text rest s n t u places left x from next at h found is a e =
       let k : ℕ = length (m.emitted s (token_of x)) in
-      let once : k + length (m.pending n) ≡ suc (length (m.pending s)) = laws.each s n (token_of x) a.goes in
+      let once : k + length (m.pending n) ≡ suc (length (m.pending s)) = laws.each h.reading.tokens s n h.reading.roles (token_of x) h.reading.ran a.goes in
       let others : length left ≡ length (places ++ at ∷ []) - k = ap length e ∙ length-drop k (places ++ at ∷ []) in
       let more : length (places ++ at ∷ []) ≡ length places + 1 = length-append places (at ∷ []) in
       let waited : length places ≡ length (m.pending s) = h.each in

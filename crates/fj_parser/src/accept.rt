@@ -3,7 +3,7 @@ ghost use Rattle.expression_reader.specs.Machine.{settled};
 ghost use Rattle.fj_parser.specs.Accepting.{AreCounted, Outcome, OwnOutcome};
 ghost use Rattle.fj_parser.specs.Machine.{pending, reader, role, step, waits};
 ghost use Rattle.fj_parser.specs.MachineViews.{machine_seen, IsRoomy};
-ghost use Rattle.fj_parser.specs.Readers.{misplaced_as};
+ghost use Rattle.fj_parser.specs.Readers.{misplaced_as, IsReached};
 ghost use Rattle.fj_parser.specs.Waiting.{waiting_places, waiting_roles, WaitedWithin};
 ghost use Rattle.fj_tally.specs.Views.{tally_seen};
 ghost use Rattle.fj_symbols.specs.Views.{is_read, symbol_seen};
@@ -85,6 +85,7 @@ pub fn accept<'a>(
 ) -> Result<Option<Refusal>, AllocError>
     requires read { is_read (symbol_seen symbol) ≡ true }
     requires waiting { waiting_roles waiting.old ≡ pending (machine_seen machine.old) }
+    requires reached { IsReached reader (machine_seen machine.old) }
     requires room { IsRoomy (machine_seen machine.old) }
     ensures { IfOk result (Outcome reader (machine_seen machine.old) (tally_seen tally.old) (waiting_places waiting.old)
         (symbol_seen symbol.entry) at.entry (machine_seen machine.new) (tally_seen tally.new) waiting.new) }

@@ -7,6 +7,7 @@ ghost use Rattle.fj_parser.specs.Answers.{IsReadAs, IsRefusedAs};
 ghost use Rattle.fj_parser.specs.Counting.{Counted};
 ghost use Rattle.fj_parser.specs.Machine.{pending, reader, stands_for};
 ghost use Rattle.fj_parser.specs.MachineViews.{machine_seen, IsRoomy};
+ghost use Rattle.fj_parser.specs.Readers.{IsReached};
 ghost use Rattle.fj_parser.specs.Reading.{IsPlaced, fault_kind, fault_place, of_parts};
 ghost use Rattle.fj_parser.specs.Waiting.{waiting_places, waiting_roles};
 ghost use Rattle.fj_tally.specs.Views.{tally_seen};
@@ -75,6 +76,7 @@ fn take<'a>(
 ) -> Result<(), ParseFault>
     requires read { is_read (symbol_seen symbol) ≡ true }
     requires waiting { waiting_roles waiting.old ≡ pending (machine_seen machine.old) }
+    requires reached { IsReached reader (machine_seen machine.old) }
     requires room { IsRoomy (machine_seen machine.old) }
     ensures ok { OnOk result (IsTaken reader (machine_seen machine.old) (tally_seen tally.old) (waiting_places waiting.old)
         (symbol_seen symbol.entry) at.entry (machine_seen machine.new) (tally_seen tally.new) (waiting_roles waiting.new) (waiting_places waiting.new)) }

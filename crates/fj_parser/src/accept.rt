@@ -88,7 +88,7 @@ pub fn accept<'a>(
     requires reached { IsReached reader (machine_seen machine.old) }
     requires room { IsRoomy (machine_seen machine.old) }
     ensures { IfOk result (Outcome reader (machine_seen machine.old) (tally_seen tally.old) (waiting_places waiting.old)
-        (symbol_seen symbol.entry) at.entry (machine_seen machine.new) (tally_seen tally.new) waiting.new) }
+        (symbol_seen symbol.entry) at (machine_seen machine.new) (tally_seen tally.new) waiting.new) }
 {
     // What waited stands before this token.
     let settling = machine.settles(symbol);

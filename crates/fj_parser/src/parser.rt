@@ -50,7 +50,7 @@ fn first_fault<'a>(
     waiting: Waiting<'a>,
     fault: LexFault,
 ) -> Result<Refusal, AllocError>
-    ensures { IfOk result (λ told. IsTold (tally_seen tally.old) (waiting_roles waiting.entry) (waiting_places waiting.entry) fault.entry told.at told.kind) }
+    ensures { IfOk result (λ told. IsTold (tally_seen tally.old) (waiting_roles waiting.entry) (waiting_places waiting.entry) fault told.at told.kind) }
 {
     match settle(alloc, tally, waiting, Settling::Bracket)? {
         Some(refusal) => Ok(refusal),
@@ -59,7 +59,7 @@ fn first_fault<'a>(
 }
 
 fn fault_of(refusal: Refusal) -> ParseFault
-    ensures { result ≡ ParseFault.At refusal.entry.at refusal.entry.kind }
+    ensures { result ≡ ParseFault.At refusal.at refusal.kind }
 {
     let Refusal { at, kind } = refusal;
     ParseFault::At { at, kind }
@@ -79,9 +79,9 @@ fn take<'a>(
     requires reached { IsReached reader (machine_seen machine.old) }
     requires room { IsRoomy (machine_seen machine.old) }
     ensures ok { OnOk result (IsTaken reader (machine_seen machine.old) (tally_seen tally.old) (waiting_places waiting.old)
-        (symbol_seen symbol.entry) at.entry (machine_seen machine.new) (tally_seen tally.new) (waiting_roles waiting.new) (waiting_places waiting.new)) }
+        (symbol_seen symbol.entry) at (machine_seen machine.new) (tally_seen tally.new) (waiting_roles waiting.new) (waiting_places waiting.new)) }
     ensures fault { (told : ℕ) (kind : _) → result ≡ Err (ParseFault.At told kind) → IsToldAt reader (machine_seen machine.old) (tally_seen tally.old)
-        (waiting_places waiting.old) (symbol_seen symbol.entry) at.entry told kind }
+        (waiting_places waiting.old) (symbol_seen symbol.entry) at told kind }
 {
     match accept(alloc, machine, tally, waiting, symbol, at)? {
         Some(refusal) => Err(fault_of(refusal)),

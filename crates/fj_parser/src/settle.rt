@@ -20,7 +20,7 @@ fn count<'a>(
     at: usize,
 ) -> Result<Option<Refusal>, AllocError>
     requires { is_identifier_role (role_seen role) ≡ true }
-    ensures { IfOk result (AreCounted (tally_seen tally.old) (role_seen role.entry ∷ []) (at.entry ∷ []) (tally_seen tally.new)) }
+    ensures { IfOk result (AreCounted (tally_seen tally.old) (role_seen role.entry ∷ []) (at ∷ []) (tally_seen tally.new)) }
 {
     if let Some(kind) = tally.broken_by(alloc, role)? {
         return Ok(Some(Refusal { at, kind }));
@@ -56,7 +56,7 @@ fn count_bracket<'a>(
     settling: Settling,
     bracket: OpenBracket,
 ) -> Result<Option<Refusal>, AllocError>
-    ensures { IfOk result (AreCounted (tally_seen tally.old) (settled_role settling.entry (opens bracket.entry.depth) ∷ []) (bracket.entry.at ∷ []) (tally_seen tally.new)) }
+    ensures { IfOk result (AreCounted (tally_seen tally.old) (settled_role settling (opens bracket.depth) ∷ []) (bracket.at ∷ []) (tally_seen tally.new)) }
 {
     count(alloc, tally, bracket_role(settling, bracket.depth), bracket.at)
 }
@@ -70,8 +70,8 @@ fn count_both<'a>(
     name: FirstName<'a>,
 ) -> Result<Option<Refusal>, AllocError>
     ensures { IfOk result (AreCounted (tally_seen tally.old)
-        (settled_role settling.entry (opens bracket.entry.depth) ∷ (settled_role settling.entry (var_name name.entry.name.now) ∷ []))
-        (bracket.entry.at ∷ (name.entry.at ∷ [])) (tally_seen tally.new)) }
+        (settled_role settling (opens bracket.depth) ∷ (settled_role settling (var_name name.entry.name.now) ∷ []))
+        (bracket.at ∷ (name.entry.at ∷ [])) (tally_seen tally.new)) }
 {
     if let Some(refusal) = count_bracket(alloc, tally, settling, bracket)? {
         return Ok(Some(refusal));
@@ -86,7 +86,7 @@ pub fn settle<'a>(
     waiting: Waiting<'a>,
     settling: Settling,
 ) -> Result<Option<Refusal>, AllocError>
-    ensures { IfOk result (AreCounted (tally_seen tally.old) (settled settling.entry (waiting_roles waiting.entry)) (waiting_places waiting.entry) (tally_seen tally.new)) }
+    ensures { IfOk result (AreCounted (tally_seen tally.old) (settled settling (waiting_roles waiting.entry)) (waiting_places waiting.entry) (tally_seen tally.new)) }
 {
     if settling == Settling::Stays {
         return Ok(None);

@@ -40,7 +40,7 @@ impl<'a> Waiting<'a> {
 
     /// What waits on.
     pub fn left(self, settling: Settling) -> Waiting<'a>
-        ensures { result ≡ waiting_left settling.entry self.entry }
+        ensures { result ≡ waiting_left settling self.entry }
     {
         match settling {
             Settling::Stays => self,
@@ -53,7 +53,7 @@ impl<'a> Waiting<'a> {
         requires shape { may_wait (waiting_roles self ++ role_seen role ∷ []) ≡ true }
         requires named { is_identifier_role (role_seen role) ≡ true }
         ensures roles { waiting_roles result ≡ waiting_roles self.entry ++ role_seen role.entry ∷ [] }
-        ensures places { waiting_places result ≡ waiting_places self.entry ++ at.entry ∷ [] }
+        ensures places { waiting_places result ≡ waiting_places self.entry ++ at ∷ [] }
     {
         match (self, role) {
             (Waiting::Nothing, Role::Opens(depth)) => Waiting::Bracket(OpenBracket { depth, at }),

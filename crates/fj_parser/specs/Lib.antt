@@ -1,9 +1,9 @@
 pub mod Accepting
 pub mod Answers
-pub mod Built
 pub mod Counting
 pub mod Laws
 pub mod Machine
 pub mod MachineViews
 pub mod Reading
 pub mod Readers
+pub mod Waiting

@@ -16,5 +16,9 @@ mod mode;
 mod params;
 mod parser;
 mod role;
+mod settle;
+mod scratch_p4;
+mod waiting;
 
+pub use scratch_p4::look;
 pub use parser::parse_project;

@@ -2,8 +2,10 @@
 //! project's class table.
 #![tactic(auto)]
 
+mod calls;
 mod class_map;
 mod class_table;
+mod judge;
 mod laws;
 mod nodes;
 mod outcome;

@@ -11,7 +11,7 @@ use Rattle.plain_fj.specs.declared.outcome.Fitting.{Fitting}
 use Rattle.plain_fj.specs.declared.outcome.Fitting.TheVariants as fitting
 use Rattle.plain_fj.specs.declared.outcome.Types.{Types}
 use Rattle.plain_fj.specs.declared.outcome.Types.TheVariants as types
-use Rattle.plain_fj.proofs.Clear.{misfits_length, types_length}
+use Rattle.plain_fj.proofs.Clear.{misfits_length}
 use Rattle.plain_fj.proofs.Members.{unlike, mapped}
 
 -- ---- the cases

@@ -1,5 +1,5 @@
 -- What is found of an expression says of its type and of its nodes, and of arguments, one after another.
-use Rattle.std.proofs.Common.{◌≡◌, ℕ, zero, suc, ◌+◌, ◌<◌, List, [], ◌∷◌, ◌++◌, length, map, take, Option, None, Some, option_map, slice_index_or, Bor, Result, Ok, Err, refl, sym, ◌∙◌, ap, ap₂, subst, arith}
+use Rattle.std.proofs.Common.{◌≡◌, ℕ, zero, suc, ◌+◌, ◌<◌, List, [], ◌∷◌, ◌++◌, length, map, take, Option, None, Some, option_map, slice_index_or, Bor, Result, Ok, Err, sym, ◌∙◌, ap, ap₂, subst, arith}
 use Rattle.std.specs.List.{flat_map}
 use Rattle.std.specs.Option.{option_or}
 use Rattle.std.specs.Result.{IfOk}
@@ -56,7 +56,7 @@ module _ (p : Table) (g : Environment) where
   types_push (x ∷ xs) a us t so_far is =
       let r = rest_typed p g (judged_expr p g x.expr).type (map (λ (j : JudgedExpr). j.type) (judged_all p g xs)) us so_far in
       let whole : Some (r.0 ∷ r.1) ≡ Some us =
-          sym (ap (λ o. types_of (o ∷ map (λ (j : JudgedExpr). j.type) (judged_all p g xs))) r.2 ∙ ap (option_map (λ us. r.0 ∷ us)) r.3) ∙ so_far in
+      sym (ap (λ o. types_of (o ∷ map (λ (j : JudgedExpr). j.type) (judged_all p g xs))) r.2 ∙ ap (option_map (λ us. r.0 ∷ us)) r.3) ∙ so_far in
       let same : r.0 ∷ r.1 ≡ us = cc whole in
       ap (λ o. types_of (o ∷ map (λ (j : JudgedExpr). j.type) (judged_all p g (xs ++ a ∷ [])))) r.2
       ∙ ap (option_map (λ us. r.0 ∷ us)) (types_push xs a r.1 t r.3 is)

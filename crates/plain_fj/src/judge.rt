@@ -1,9 +1,10 @@
-ghost use Rattle.std.specs.Prelude.{◌≡◌, IfOk};
+ghost use Rattle.std.specs.Prelude.{IfOk};
 ghost use Rattle.cfj_model.specs.Judging.{judged_expr};
 ghost use Rattle.plain_fj.specs.Found.{AreFound, IsFound, environment, judged_all};
 
-use crate::calls::{at_call, at_new};
+use crate::calls::at_call;
 use crate::class_table::ClassTable;
+use crate::news::at_new;
 use crate::nodes::{at_access, at_cast, at_variable};
 use crate::outcome::{Outcome, Scope, Types};
 use cfj_model::{Arg, Expr};
@@ -52,7 +53,7 @@ pub fn judge<'a>(
     }
 }
 
-// What is found of arguments, from the first on.
+/// What is found of arguments, from the first on.
 #[cycle(judge)]
 fn judge_args<'a>(
     alloc: Global,

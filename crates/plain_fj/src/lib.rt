@@ -7,6 +7,7 @@ mod class_map;
 mod class_table;
 mod judge;
 mod laws;
+mod news;
 mod nodes;
 mod outcome;
 mod superclasses;

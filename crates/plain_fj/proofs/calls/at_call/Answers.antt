@@ -3,7 +3,7 @@ use Rattle.cfj_model.specs.Judging.{judged_expr}
 use Rattle.cfj_model.specs.Typing.{param_types}
 use Rattle.cfj_model.specs.declared.expr.Expr.TheVariants as variant
 use Rattle.cfj_model.specs.declared.site.Rule.TheVariants.{E5}
-use Rattle.plain_fj.specs.Found.{IsFound, judged_all, names, fitting_of}
+use Rattle.plain_fj.specs.Found.{IsFound, judged_all, names}
 use Rattle.plain_fj.proofs.FirstNodes.{call_stops, call_args_stop, call_no_method, call_differs, call_misfits, call_fits, typed_is, breaks_is}
 use Rattle.plain_fj.proofs.Fitted.{fits_is, misfits_is, differs_is, misfit_within, types_are, types_break, as_many, fitting_is, slot_read}
 use Rattle.plain_fj.proofs.calls.at_call.Goals as goal
@@ -43,18 +43,18 @@ returns c = λ g on h args.
     let fitting = fitting_is p c.fit.result c.in-Typed-types.types.items c.as_slice.result.now c.as_slice-2.result.now ws c.fit.ensures c.as_slice.ensures.value
     (ap names c.as_slice-2.ensures.value ∙ c.in_ok-wanted.ensures ∙ ap param_types c.slice.ensures) in
     elim c.match-fit.branch [
-      in-Fits w ↦
-        let cases = fits_is p us ws c.fit.result fitting w.in-Fits.is in
-        subst (IsFound (judged_expr p g (variant.Call c.args.slot on c.args.method.now c.args.args.now))) (sym w.result-is)
-        (call_fits p g c.args.slot on c.args.method.now c.args.args.now c.in-Typed.class.now us c.in-Some.called.now receiver typed (sym c.in-Some.ensures) cases.0 cases.1)
-    | in-Differs w ↦
-        subst (IsFound (judged_expr p g (variant.Call c.args.slot on c.args.method.now c.args.args.now))) (sym w.result-is)
-        (call_differs p g c.args.slot on c.args.method.now c.args.args.now c.in-Typed.class.now us c.in-Some.called.now receiver typed (sym c.in-Some.ensures)
-        (differs_is p us ws c.fit.result fitting w.in-Differs.is))
-    | in-Misfits w ↦
-        let cases = misfits_is p us ws c.fit.result w.in-Misfits.place fitting w.in-Misfits.is in
-        let a = slot_read c.args.args.now w.in-Misfits.place w.slot_at.result w.slot_at.ensures in
-        subst (IsFound (judged_expr p g (variant.Call c.args.slot on c.args.method.now c.args.args.now))) (sym w.result-is)
-        (call_misfits p g c.args.slot on c.args.method.now c.args.args.now c.in-Typed.class.now us c.in-Some.called.now w.in-Misfits.place a.0 receiver typed (sym c.in-Some.ensures) cases.0 cases.1 a.1
-        ∙ ap (λ s. Some (s, E5)) a.2)
+      | in-Fits w ↦
+          let cases = fits_is p us ws c.fit.result fitting w.in-Fits.is in
+          subst (IsFound (judged_expr p g (variant.Call c.args.slot on c.args.method.now c.args.args.now))) (sym w.result-is)
+          (call_fits p g c.args.slot on c.args.method.now c.args.args.now c.in-Typed.class.now us c.in-Some.called.now receiver typed (sym c.in-Some.ensures) cases.0 cases.1)
+      | in-Differs w ↦
+          subst (IsFound (judged_expr p g (variant.Call c.args.slot on c.args.method.now c.args.args.now))) (sym w.result-is)
+          (call_differs p g c.args.slot on c.args.method.now c.args.args.now c.in-Typed.class.now us c.in-Some.called.now receiver typed (sym c.in-Some.ensures)
+          (differs_is p us ws c.fit.result fitting w.in-Differs.is))
+      | in-Misfits w ↦
+          let cases = misfits_is p us ws c.fit.result w.in-Misfits.place fitting w.in-Misfits.is in
+          let a = slot_read c.args.args.now w.in-Misfits.place w.slot_at.result w.slot_at.ensures in
+          subst (IsFound (judged_expr p g (variant.Call c.args.slot on c.args.method.now c.args.args.now))) (sym w.result-is)
+          (call_misfits p g c.args.slot on c.args.method.now c.args.args.now c.in-Typed.class.now us c.in-Some.called.now w.in-Misfits.place a.0 receiver typed (sym c.in-Some.ensures) cases.0 cases.1 a.1
+          ∙ ap (λ s. Some (s, E5)) a.2)
     ]

@@ -1,4 +1,4 @@
-use Rattle.std.proofs.Common.{Some, refl, sym, ◌∙◌, ap}
+use Rattle.std.proofs.Common.{sym, ◌∙◌, ap}
 use Rattle.cfj_model.specs.Judging.{judged_expr}
 use Rattle.cfj_model.specs.Typing.{Environment}
 use Rattle.cfj_model.specs.declared.expr.Expr.{Expr}
@@ -35,9 +35,9 @@ judge-returns-in_ok-types-in-Call t c =
     → IsFound (judged_expr p g (variant.Call c.in-Call.slot on c.in-Call.method c.slice-args.result.now)) found)
     (λ (found : Outcome). IsFound (judged_expr p g c.args.expr.now) found)
     (λ found h. found_as p g c.args.expr.now x found
-      (c.in-Call.is ∙ ap (λ (on : Expr). variant.Call c.in-Call.slot on c.in-Call.method c.in-Call.args) (sym c.get-in-Call.ensures)
-      ∙ ap (variant.Call c.in-Call.slot c.get-in-Call.result.now c.in-Call.method) (sym c.slice-args.ensures))
-      (h g c.get-in-Call.result.now c.in_ok-receiver-in-Call.ensures c.in_ok-types-in-Call.ensures))
+    (c.in-Call.is ∙ ap (λ (on : Expr). variant.Call c.in-Call.slot on c.in-Call.method c.in-Call.args) (sym c.get-in-Call.ensures)
+    ∙ ap (variant.Call c.in-Call.slot c.get-in-Call.result.now c.in-Call.method) (sym c.slice-args.ensures))
+    (h g c.get-in-Call.result.now c.in_ok-receiver-in-Call.ensures c.in_ok-types-in-Call.ensures))
     c.at_call.result c.at_call.ensures
 
 pub judge-returns-in_ok-types-in-New : goal.judge-returns-in_ok-types-in-New

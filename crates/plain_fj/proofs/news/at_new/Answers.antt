@@ -1,15 +1,14 @@
-use Rattle.std.proofs.Common.{List, ℕ, map, Some, sym, ◌∙◌, ap, subst}
+use Rattle.std.proofs.Common.{Some, sym, ◌∙◌, ap, subst}
 use Rattle.cfj_model.specs.Judging.{judged_expr}
 use Rattle.cfj_model.specs.LookUps.{all_fields, fields_of}
-use Rattle.cfj_model.specs.declared.class.Field.{Field}
 use Rattle.cfj_model.specs.declared.expr.Expr.TheVariants as variant
 use Rattle.cfj_model.specs.declared.site.Rule.TheVariants.{E7}
 use Rattle.plain_fj.specs.Found.{IsFound, judged_all, names}
 use Rattle.plain_fj.proofs.FirstNodes.{new_unknown, new_args_stop, new_differs, new_misfits, new_fits}
 use Rattle.plain_fj.proofs.Fitted.{fits_is, misfits_is, differs_is, misfit_within, types_are, types_break, as_many, fitting_is, slot_read}
 use Rattle.plain_fj.proofs.TypeLists.{own_types}
-use Rattle.plain_fj.proofs.calls.at_new.Goals as goal
-use Rattle.plain_fj.proofs.calls.at_new.Goals.{in-Fits, in-Differs, in-Misfits}
+use Rattle.plain_fj.proofs.news.at_new.Goals as goal
+use Rattle.plain_fj.proofs.news.at_new.Goals.{in-Fits, in-Differs, in-Misfits}
 
 pub returns-then-not-is_known : goal.returns-then-not-is_known
 returns-then-not-is_known c = λ g args. new_unknown c.args.table.now g c.args.slot c.args.class.now c.args.args.now (sym c.is_known.ensures ∙ c.if-not-is_known.true)
@@ -39,16 +38,16 @@ returns c = λ g args.
     let fitting = fitting_is p c.fit.result c.in-Typed.types.items c.as_slice.result.now c.as_slice-2.result.now ws c.fit.ensures c.as_slice.ensures.value
     (ap names c.as_slice-2.ensures.value ∙ c.in_ok-wanted.ensures ∙ ap (λ ks. own_types (fields_of ks)) c.chain.ensures) in
     elim c.match-fit.branch [
-      in-Fits w ↦
-        let cases = fits_is p us ws c.fit.result fitting w.in-Fits.is in
-        subst (IsFound (judged_expr p g (variant.New c.args.slot c.args.class.now c.args.args.now))) (sym w.result-is)
-        (new_fits p g c.args.slot c.args.class.now c.args.args.now us known typed cases.0 cases.1)
-    | in-Differs w ↦
-        subst (IsFound (judged_expr p g (variant.New c.args.slot c.args.class.now c.args.args.now))) (sym w.result-is)
-        (new_differs p g c.args.slot c.args.class.now c.args.args.now us known typed (differs_is p us ws c.fit.result fitting w.in-Differs.is))
-    | in-Misfits w ↦
-        let cases = misfits_is p us ws c.fit.result w.in-Misfits.place fitting w.in-Misfits.is in
-        let a = slot_read c.args.args.now w.in-Misfits.place w.slot_at.result w.slot_at.ensures in
-        subst (IsFound (judged_expr p g (variant.New c.args.slot c.args.class.now c.args.args.now))) (sym w.result-is)
-        (new_misfits p g c.args.slot c.args.class.now c.args.args.now us w.in-Misfits.place a.0 known typed cases.0 cases.1 a.1 ∙ ap (λ s. Some (s, E7)) a.2)
+      | in-Fits w ↦
+          let cases = fits_is p us ws c.fit.result fitting w.in-Fits.is in
+          subst (IsFound (judged_expr p g (variant.New c.args.slot c.args.class.now c.args.args.now))) (sym w.result-is)
+          (new_fits p g c.args.slot c.args.class.now c.args.args.now us known typed cases.0 cases.1)
+      | in-Differs w ↦
+          subst (IsFound (judged_expr p g (variant.New c.args.slot c.args.class.now c.args.args.now))) (sym w.result-is)
+          (new_differs p g c.args.slot c.args.class.now c.args.args.now us known typed (differs_is p us ws c.fit.result fitting w.in-Differs.is))
+      | in-Misfits w ↦
+          let cases = misfits_is p us ws c.fit.result w.in-Misfits.place fitting w.in-Misfits.is in
+          let a = slot_read c.args.args.now w.in-Misfits.place w.slot_at.result w.slot_at.ensures in
+          subst (IsFound (judged_expr p g (variant.New c.args.slot c.args.class.now c.args.args.now))) (sym w.result-is)
+          (new_misfits p g c.args.slot c.args.class.now c.args.args.now us w.in-Misfits.place a.0 known typed cases.0 cases.1 a.1 ∙ ap (λ s. Some (s, E7)) a.2)
     ]

@@ -13,3 +13,5 @@ pub mod Walking
 pub mod Nearest
 pub mod FirstNodes
 pub mod TypeLists
+pub mod FirstBreaks
+pub mod SameNames

@@ -15,3 +15,5 @@ pub mod FirstNodes
 pub mod TypeLists
 pub mod Fitted
 pub mod Outcomes
+pub mod FirstBreaks
+pub mod SameNames

@@ -113,12 +113,12 @@ args_bools true false false d = refl
 
 -- ---- as many answers as arguments
 
-misfits_length : (p : Table) (ts ws : List (List ℕ)) → length (misfits p ts ws) ≡ length ts
+pub misfits_length : (p : Table) (ts ws : List (List ℕ)) → length (misfits p ts ws) ≡ length ts
 misfits_length p [] ws = refl
 misfits_length p (t ∷ ts) [] = ap suc (misfits_length p ts [])
 misfits_length p (t ∷ ts) (w ∷ ws) = ap suc (misfits_length p ts ws)
 
-types_length : (os : List (Option (List ℕ))) (ts : List (List ℕ)) → types_of os ≡ Some ts → length ts ≡ length os
+pub types_length : (os : List (Option (List ℕ))) (ts : List (List ℕ)) → types_of os ≡ Some ts → length ts ≡ length os
 types_length [] ts h = let same : [] ≡ ts = cc h in ap length (sym same)
 types_length (None ∷ os) ts h = absurd (unlike h)
 types_length (Some t ∷ os) ts h = go (types_length os) (types_of os) refl h

@@ -156,7 +156,7 @@ module _ (p : Table) (g : Environment) where
 
   -- ---- arguments
 
-  rest_typed : (o : Option (List ℕ)) (os : List (Option (List ℕ))) (us : List (List ℕ)) → types_of (o ∷ os) ≡ Some us
+  pub rest_typed : (o : Option (List ℕ)) (os : List (Option (List ℕ))) (us : List (List ℕ)) → types_of (o ∷ os) ≡ Some us
       → (t : List ℕ) × (ts : List (List ℕ)) × (o ≡ Some t) × (types_of os ≡ Some ts)
   rest_typed None os us h = absurd (unlike h)
   rest_typed (Some t) os us h = let r = mapped (λ us. t ∷ us) (types_of os) us h in (t, r.0, refl, r.1)

@@ -13,3 +13,7 @@ pub mod Walking
 pub mod Nearest
 pub mod FirstNodes
 pub mod TypeLists
+pub mod Fitted
+pub mod Outcomes
+pub mod FirstBreaks
+pub mod SameNames

@@ -36,6 +36,11 @@ abbrev pub AreFound : List JudgedExpr → Types → Type 0
 AreFound js (types.Typed ts) = types_of (map (λ j. j.type) js) ≡ Some (names ts.items)
 AreFound js (types.Breaks slot rule) = (types_of (map (λ j. j.type) js) ≡ None) × (first_of_all js ≡ Some (slot, rule))
 
+-- as many types as arguments, where they have types
+abbrev pub AreAsMany : List Arg → Types → Type 0
+AreAsMany args (types.Typed ts) = length ts.items ≡ length args
+AreAsMany args (types.Breaks slot rule) = Unit {0}
+
 abbrev pub at_misfit : Option ℕ → Fitting
 at_misfit None = fitting.Fits
 at_misfit (Some i) = fitting.Misfits i

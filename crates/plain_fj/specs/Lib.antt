@@ -1,3 +1,4 @@
 pub mod ByName
 pub mod Finding
 pub mod Found
+pub mod Breaking

@@ -1,4 +1,4 @@
-ghost use Rattle.std.specs.Prelude.{◌≡◌, ◌||◌, find};
+ghost use Rattle.std.specs.Prelude.{◌≡◌, ◌<◌, ◌||◌, Some, find, length, option_map, slice_get};
 ghost use Rattle.std.specs.Option.{option_copied};
 ghost use Rattle.std.specs.Str.{bytes_eq};
 ghost use Rattle.cfj_model.specs.Judging.{judged_expr};
@@ -41,6 +41,14 @@ pub fn slot_of(expr: &Expr) -> u16
             on: _,
         } => *slot,
     }
+}
+
+/// The slot of the root of the argument at a place.
+pub fn slot_at(args: &[Arg], place: usize) -> u16
+    requires { place < length args.now }
+    ensures { option_map (λ a. finding.slot_of a.expr) (slice_get args.now place) ≡ Some result }
+{
+    slot_of(&args[place].expr)
 }
 
 fn param_called<'a>(params: &'a [Param], name: &Name) -> Option<&'a Param>

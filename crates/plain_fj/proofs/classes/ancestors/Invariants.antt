@@ -1,0 +1,7 @@
+use Rattle.std.proofs.Common.{◌≡◌, take}
+use Rattle.cfj_model.specs.LookUps.{without}
+use Rattle.plain_fj.specs.ByName.{seen}
+use Rattle.plain_fj.proofs.classes.ancestors.Given as goal
+
+abbrev pub invariant-each : goal.invariant-each
+invariant-each l = seen l.found.items ≡ without l.name (seen (take l.class-index l.chain))

@@ -5,8 +5,7 @@ use Rattle.std.specs.Str.{bytes_eq}
 use Rattle.std.specs.String.{string_bytes}
 use Rattle.std.specs.declared.alloc.Global.{Global}
 use Rattle.cfj_model.specs.declared.fault.FaultKind.{FaultKind}
-use Rattle.cfj_model.specs.Faults.{IsTextOf, IsFirstFault}
-use Rattle.fj_parser.specs.Built.{built}
+use Rattle.cfj_model.specs.Faults.{IsTextOf, IsFirstFault, projects}
 use Rattle.cfj_model.specs.ProductLines.{ProductLine}
 use Rattle.cfj_model.specs.Selections.{Chosen}
 use Rattle.cfj_model.specs.Validity.{IsValid, IsFirstFalse}
@@ -56,7 +55,7 @@ IsAllOf (Some bytes) text = text ≡ bytes
 pub record IsVariantOf (input : Known) (names : List ℕ) (line : ProductLine) (selection : Chosen) : Type 0 where
   pub text : List ℕ
   pub all : IsAllOf input text
-  pub read : IsTextOf built text line
+  pub read : IsTextOf projects text line
   pub spelled : IsSpelled line.model.features (named_parts names) selection
 
 -- The output gained the plain print of the variant that the project's text and the word name, whose selection is valid.
@@ -81,7 +80,7 @@ pub record IsNoText (input : Known) (line : List ℕ) : Type 0 where
   pub at : ℕ
   pub kind : FaultKind
   pub all : IsAllOf input text
-  pub first : IsFirstFault built text at kind
+  pub first : IsFirstFault projects text at kind
   pub told : line ≡ refusal_line at kind
 
 -- The project's text stands for a product line, and the line tells the first name of the word that is bad.
@@ -90,7 +89,7 @@ pub record IsBadName (input : Known) (names line : List ℕ) : Type 0 where
   pub project : ProductLine
   pub fault : NameFault
   pub all : IsAllOf input text
-  pub read : IsTextOf built text project
+  pub read : IsTextOf projects text project
   pub first : IsFirstBad project.model.features (named_parts names) fault
   pub told : line ≡ names_line (named_parts names) fault
 

@@ -1,6 +1,5 @@
 ghost use Rattle.std.specs.Prelude.{◌≡◌, ℕ, ◌≤◌, List, length, map, Some, IfOk, string_bytes};
-ghost use Rattle.cfj_model.specs.Faults.{IsTextOf, IsFirstFault};
-ghost use Rattle.fj_parser.specs.Built.{built};
+ghost use Rattle.cfj_model.specs.Faults.{IsTextOf, IsFirstFault, projects};
 ghost use Rattle.cide_io.specs.Faults.{Rose};
 ghost use Rattle.feature_model.specs.NamedSelections.{IsSpelled, IsFirstBad};
 ghost use Rattle.cide_tool.specs.Lines.{refusal_line, bad_name, names_line};
@@ -27,7 +26,7 @@ fn refusal(alloc: Global, at: usize, kind: &FaultKind) -> Result<String, AllocEr
 
 /// What becomes of a text with a first fault. Without memory for the line there is none to say why.
 fn refused(alloc: Global, text: &[u8], names: &str, at: usize, kind: &FaultKind) -> Outcome
-    requires { IsFirstFault built text.now at kind.now }
+    requires { IsFirstFault projects text.now at kind.now }
     ensures told { (old : _) → IsOutcome (Some text.now) names.now old old result }
     ensures command { ¬ (result ≡ Outcome.Usage) }
     ensures read { ¬ (result ≡ Outcome.ReadFault) }
@@ -73,7 +72,7 @@ fn names_refused(
     parts: &[&str],
     fault: NameFault,
 ) -> Outcome
-    requires read { IsTextOf built text.now project.now }
+    requires read { IsTextOf projects text.now project.now }
     requires parts { map (λ part. part.now) parts.now ≡ named_parts names.now }
     requires first { IsFirstBad project.now.model.features (named_parts names.now) fault }
     ensures told { (old : _) → IsOutcome (Some text.now) names.now old old result }
@@ -107,7 +106,7 @@ fn export_variant<O: Sink>(
     selection: &Selection,
     out: &mut O,
 ) -> Outcome
-    requires read { IsTextOf built text.now project.now }
+    requires read { IsTextOf projects text.now project.now }
     requires spelled { IsSpelled project.now.model.features (named_parts names.now) selection.now }
     ensures text { IsOutcome (Some text.now) names.now (O.held out.old) (O.held out.new) result }
     ensures command { ¬ (result ≡ Outcome.Usage) }
@@ -132,7 +131,7 @@ fn export_named<O: Sink>(
     project: &Project,
     out: &mut O,
 ) -> Outcome
-    requires { IsTextOf built text.now project.now }
+    requires { IsTextOf projects text.now project.now }
     ensures text { IsOutcome (Some text.now) names.now (O.held out.old) (O.held out.new) result }
     ensures command { ¬ (result ≡ Outcome.Usage) }
     ensures read { ¬ (result ≡ Outcome.ReadFault) }

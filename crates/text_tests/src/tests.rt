@@ -129,7 +129,7 @@ const REFUSED: [(&str, &str); 34] = [
     // a field behind the constructor
     (
         "class A extends Object { A() { super(); } Object f; }",
-        "refused at 42: Unexpected",
+        "refused at 50: Unexpected",
     ),
     // an assignment without its semicolon
     (

@@ -1,68 +1,5 @@
 use super::{NO_FAULTS, export, is_line, run_over};
-use cide_io::MemSink;
-use fj_parser::parse_project;
-use fj_printer::print_project;
-use std::alloc::AllocError;
 use std::test::Fail;
-
-/// Constraints behind `features A, B, C;`, and how they are printed.
-const CONSTRAINTS: [(&str, &str); 9] = [
-    (
-        "(A -> B) -> !(A & B) <-> true",
-        "(A -> B) -> !(A & B) <-> true",
-    ),
-    ("((A -> (B -> C)))", "A -> B -> C"),
-    ("A | (B | C)", "A | (B | C)"),
-    ("(A | B) | C", "A | B | C"),
-    ("(A & B) | (C & !false)", "A & B | C & !false"),
-    ("(A | B) & C", "(A | B) & C"),
-    ("A <-> (B <-> C)", "A <-> (B <-> C)"),
-    ("!(!(A)) & (true)", "!!A & true"),
-    ("(A <-> B) -> C", "(A <-> B) -> C"),
-];
-
-/// The print of what a text stands for; nothing where it isn't read, or the sink failed.
-fn reprinted(rt: &HostRuntime, text: &str, fails: &[u64]) -> Result<Option<Vec<u8>>, AllocError> {
-    let alloc = rt.alloc();
-    if text.len() > 4_194_304 {
-        return Ok(None);
-    }
-    let Ok(project) = parse_project(alloc, text.as_bytes()) else {
-        return Ok(None);
-    };
-    let mut sink = MemSink::new(Vec::from_slice(alloc, fails)?);
-    let printed = print_project(&project, &mut sink).is_ok();
-    let held = sink.into_held();
-    if printed {
-        return Ok(Some(held));
-    }
-    Ok(None)
-}
-
-/// Whether a text is printed as another, and that again as itself.
-fn is_reprinted(rt: &HostRuntime, text: &str, wanted: &str) -> Result<bool, AllocError> {
-    let Some(first) = reprinted(rt, text, &[])? else {
-        return Ok(false);
-    };
-    let Some(again) = reprinted(rt, wanted, &[])? else {
-        return Ok(false);
-    };
-    Ok(first.as_slice() == wanted.as_bytes() && again.as_slice() == wanted.as_bytes())
-}
-
-#[test]
-fn constraints_have_the_fewest_brackets(rt: HostRuntime) -> Result<(), Fail> {
-    let alloc = rt.alloc();
-    for (constraint, wanted) in CONSTRAINTS {
-        let text = format!(in alloc; "features A,B,C;constraint {constraint};")?;
-        let printed = format!(in alloc; "features A, B, C;\nconstraint {wanted};\n")?;
-        assert!(rt;
-            is_reprinted(&rt, text.as_str(), printed.as_str())?,
-            "{constraint}"
-        );
-    }
-    Ok(())
-}
 
 /// A project in which each kind of node that may be marked is, by F or by G.
 const MARKED: &str = "features F, G;
@@ -70,14 +7,18 @@ constraint F | G | true;
 @F class A extends Object {
   @G Object f;
   A(@F @G Object f) { super(@F f); @G this.f = f; }
+  @G A m(@F A x, @G A y) { return x.m(@G y, @F new A(@F @G x)); }
 }
 class B extends Object {
   B() { super(); }
+  @F B m(@G B x) { return this; }
+  B n(@F B x, B y) { return ((B) this).n(@F x, y); }
 }
 ";
 
 const NONE_SELECTED: &str = "class B extends Object {
   B() { super(); }
+  B n(B y) { return ((B) this).n(y); }
 }
 ";
 
@@ -86,21 +27,25 @@ const F_SELECTED: &str = "class A extends Object {
 }
 class B extends Object {
   B() { super(); }
+  B m() { return this; }
+  B n(B x, B y) { return ((B) this).n(x, y); }
 }
 ";
 
 const BOTH_SELECTED: &str = "class A extends Object {
   Object f;
   A(Object f) { super(f); this.f = f; }
+  A m(A x, A y) { return x.m(y, new A(x)); }
 }
 class B extends Object {
   B() { super(); }
+  B m(B x) { return this; }
+  B n(B x, B y) { return ((B) this).n(x, y); }
 }
 ";
 
 #[test]
 fn a_project_with_each_kind_of_mark_has_its_variants(rt: HostRuntime) -> Result<(), Fail> {
-    assert!(rt; is_reprinted(&rt, MARKED, MARKED)?);
     let variants = [
         (".", NONE_SELECTED),
         ("F", F_SELECTED),
@@ -112,6 +57,32 @@ fn a_project_with_each_kind_of_mark_has_its_variants(rt: HostRuntime) -> Result<
         let answer = export(&rt, MARKED, names)?;
         assert_eq!(rt; answer.status, 0, "{names}");
         assert!(rt; answer.out.as_slice() == wanted.as_bytes(), "{names}");
+    }
+    Ok(())
+}
+
+/// A parameter and an argument that come and go together, and the same where the parameter stays.
+const AGREEING: &str = "features A; class X extends Object { X() { super(); } \
+Object m(@A X p, Object q) { return q; } Object n(X e, Object y) { return e.m(@A e, y); } }";
+const DISAGREEING: &str = "features A; class X extends Object { X() { super(); } \
+Object m(X p, Object q) { return q; } Object n(X e, Object y) { return e.m(@A e, y); } }";
+
+#[test]
+fn arguments_come_and_go_with_their_marks(rt: HostRuntime) -> Result<(), Fail> {
+    let rows = [
+        (AGREEING, ".", "Object q", "e.m(y)"),
+        (AGREEING, "A", "X p, Object q", "e.m(e, y)"),
+        (DISAGREEING, ".", "X p, Object q", "e.m(y)"),
+        (DISAGREEING, "A", "X p, Object q", "e.m(e, y)"),
+    ];
+    for (text, names, params, call) in rows {
+        let wanted = format!(in rt.alloc();
+            "class X extends Object {{\n  X() {{ super(); }}\n  Object m({params}) {{ return q; }}\n  \
+Object n(X e, Object y) {{ return {call}; }}\n}}\n"
+        )?;
+        let answer = export(&rt, text, names)?;
+        assert_eq!(rt; answer.status, 0, "{params} {names}");
+        assert!(rt; answer.out.as_slice() == wanted.as_bytes(), "{params} {names}");
     }
     Ok(())
 }
@@ -147,13 +118,5 @@ fn only_valid_selections_are_exported(rt: HostRuntime) -> Result<(), Fail> {
         NO_FAULTS,
     )?;
     assert_eq!(rt; unwritten.status, 8);
-    Ok(())
-}
-
-#[test]
-fn a_print_stops_where_its_sink_fails(rt: HostRuntime) -> Result<(), Fail> {
-    assert!(rt; reprinted(&rt, MARKED, &[0])?.is_none());
-    // The print goes out in one piece.
-    assert!(rt; reprinted(&rt, MARKED, &[1])?.is_some());
     Ok(())
 }

@@ -1,7 +1,7 @@
 #!/usr/bin/env bash
 # Times `cide export` on projects of a quarter, half and the whole of the largest size, and beside it a run of Python that
 # reads the same file, splits it into words and writes them back: first without features, then with 128 of them, of which half
-# are selected. Each time is the best of so many runs: export.sh [RUNS]. Where strace is there, it also counts the reads and writes
+# are selected, then with methods too. Each time is the best of so many runs: export.sh [RUNS]. Where strace is there, it also counts the reads and writes
 # that the system sees.
 # Ends with status 1 where the whole takes more than five times the quarter, or longer than Python, or where there are more
 # writes than one for each 4 KiB of output and ten, or more reads than one for each 16 KiB of input and ten.
@@ -70,5 +70,7 @@ failed=0
 measure_sizes 0 .
 half=$(seq -s , -f 'F%g' 0 2 126)
 measure_sizes 128 "$half"
+count_calls "$half"
+measure_sizes 128 "$half" methods
 count_calls "$half"
 exit "$failed"

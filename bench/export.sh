@@ -11,20 +11,9 @@ runs=${1:-9}
 top=$(dirname "$(dirname "$(readlink -f "${BASH_SOURCE[0]}")")")
 work=$(mktemp -d)
 trap 'rm -rf "$work"' EXIT
+. "$top/bench/timing.sh"
 
 python_words='import sys; text = open(sys.argv[1], encoding="utf-8").read(); sys.stdout.write(" ".join(text.split()))'
-
-# the least time in microseconds that a command took
-best_of() {
-    local best="" began took
-    for _ in $(seq "$runs"); do
-        began=$(date +%s%N)
-        "$@" >"$work/written"
-        took=$((($(date +%s%N) - began) / 1000))
-        if [ -z "$best" ] || [ "$took" -lt "$best" ]; then best=$took; fi
-    done
-    echo "$best"
-}
 
 # a number of classes, which is a size, with so many features, under these names; with methods where a fourth word stands
 measure() {
@@ -34,11 +23,6 @@ measure() {
     python_times[$1]=$(best_of python3 -c "$python_words" "$file")
     printf '%5d classes, %3d features, %8d bytes: export %7d us, python %7d us\n' \
         "$1" "$2" "$(stat -c %s "$file")" "${times[$1]}" "${python_times[$1]}"
-}
-
-# says whether a number is at most another
-check() {
-    if [ "$2" -le "$3" ]; then echo "yes: $1"; else echo "no: $1"; failed=1; fi
 }
 
 # the number of calls of this kind that an export makes
@@ -66,7 +50,6 @@ measure_sizes() {
 "$top/cide" export "$top/examples/shapes.fj" . >/dev/null
 program=$top/crates/cide/out/cide
 declare -A times python_times
-failed=0
 measure_sizes 0 .
 half=$(seq -s , -f 'F%g' 0 2 126)
 measure_sizes 128 "$half"

@@ -1,6 +1,6 @@
--- Lists of types that are collected, and compared place by place.
+-- Lists of names that are collected place by place, and the first of them that misfits.
 use Rattle.std.proofs.Common.{◌≡◌, ℕ, zero, suc, ◌+◌, ◌<◌, ◌≤◌, true, false, not, List, [], ◌∷◌, ◌++◌, length, map, take, drop, slice_index_or, Option, Some, None, option_map, Bor, refl, sym, ◌∙◌, ap, ap₂, arith, add-one}
-use Rattle.std.proofs.lemmas.List.{append_assoc}
+use Rattle.std.proofs.lemmas.List.{append_assoc, map-append}
 use Rattle.std.proofs.Math.Seq.{take-length}
 use Rattle.cfj_model.specs.LookUps.{Table, is_subtype, fields_of}
 use Rattle.cfj_model.specs.Judging.{misfits}
@@ -41,11 +41,7 @@ map_push : {A B : Type 0} (f : A → B) (xs : List A) (x : A) → map f (xs ++ x
 map_push f [] x = refl
 map_push f (y ∷ ys) x = ap (λ zs. f y ∷ zs) (map_push f ys x)
 
-map_append : {A B : Type 0} (f : A → B) (xs ys : List A) → map f (xs ++ ys) ≡ map f xs ++ map f ys
-map_append f [] ys = refl
-map_append f (x ∷ xs) ys = ap (λ zs. f x ∷ zs) (map_append f xs ys)
-
--- ---- types that are collected
+-- ---- names that are collected
 
 pub names_push : (ms ns : List (Bor (List ℕ))) (b : Bor (List ℕ)) → ms ≡ ns ++ b ∷ [] → names ms ≡ names ns ++ b.now ∷ []
 names_push ms ns b e = ap names e ∙ map_push (λ n. n.now) ns b
@@ -61,17 +57,22 @@ pub names_all : {A : Type 0} (f : A → List ℕ) (before : List (List ℕ)) (xs
     → names ns ≡ before ++ map f xs
 names_all f before xs i ns so_far e = so_far ∙ ap (λ z. before ++ map f z) (take_all xs i e)
 
+-- the types of fields
 abbrev pub own_types : List Field → List (List ℕ)
 own_types fs = map (λ f. f.of) fs
 
+-- and their names
+abbrev pub own_names : List Field → List (List ℕ)
+own_names fs = map (λ f. f.name) fs
+
 -- the fields of one more class of a chain, from its end on
-pub chain_more : (ks : List (Bor Class)) (left less : ℕ) (k : Bor Class) (ms ns : List (List ℕ)) → ns ≡ own_types (fields_of (seen (drop left ks))) → left ≡ suc less → less < length ks
-    → k ≡ slice_index_or ks less k → ms ≡ ns ++ own_types k.now.fields → ms ≡ own_types (fields_of (seen (drop less ks)))
-chain_more ks left less k ms ns so_far e lt at more =
+pub chain_more : (f : Field → List ℕ) (ks : List (Bor Class)) (left less : ℕ) (k : Bor Class) (ms ns : List (List ℕ)) → ns ≡ map f (fields_of (seen (drop left ks))) → left ≡ suc less → less < length ks
+    → k ≡ slice_index_or ks less k → ms ≡ ns ++ map f k.now.fields → ms ≡ map f (fields_of (seen (drop less ks)))
+chain_more f ks left less k ms ns so_far e lt at more =
     more
-    ∙ ap (λ z. z ++ own_types k.now.fields) (so_far ∙ ap (λ n. own_types (fields_of (seen (drop n ks)))) (e ∙ sym (add-one less)))
-    ∙ sym (map_append (λ (f : Field). f.of) (fields_of (seen (drop (less + 1) ks))) k.now.fields)
-    ∙ ap (λ z. own_types (fields_of (seen z))) (sym (drop_at ks less k lt at))
+    ∙ ap (λ z. z ++ map f k.now.fields) (so_far ∙ ap (λ n. map f (fields_of (seen (drop n ks)))) (e ∙ sym (add-one less)))
+    ∙ sym (map-append f (fields_of (seen (drop (less + 1) ks))) k.now.fields)
+    ∙ ap (λ z. map f (fields_of (seen z))) (sym (drop_at ks less k lt at))
 
 -- ---- misfits
 

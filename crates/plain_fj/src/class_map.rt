@@ -55,6 +55,7 @@ impl<'a> ClassMap<'a> {
     }
 }
 
+/// Each class by its name.
 fn classes_by_name<'a>(
     alloc: Global,
     project: &'a Project,

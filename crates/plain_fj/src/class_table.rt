@@ -88,6 +88,7 @@ impl<'a> ClassTable<'a> {
     }
 }
 
+/// The chain of each class, by its name.
 fn chains_of<'a>(
     alloc: Global,
     project: &'a Project,
@@ -114,7 +115,7 @@ pub fn is_extended(chain: &[&Class], name: &Name) -> bool
 }
 
 /// The field of this name that a class itself declares.
-pub fn field_called<'a>(class: &'a Class, name: &Name) -> Option<&'a Field>
+fn field_called<'a>(class: &'a Class, name: &Name) -> Option<&'a Field>
     ensures { option_copied result ≡ spec.field_called name.now class.now }
 {
     let name = name.text();
@@ -126,7 +127,7 @@ pub fn field_called<'a>(class: &'a Class, name: &Name) -> Option<&'a Field>
 }
 
 /// The method of this name that a class itself declares.
-pub fn method_called<'a>(class: &'a Class, name: &Name) -> Option<&'a Method>
+fn method_called<'a>(class: &'a Class, name: &Name) -> Option<&'a Method>
     ensures { option_copied result ≡ spec.method_called name.now class.now }
 {
     let name = name.text();

@@ -20,6 +20,5 @@ mod site_break;
 mod superclasses;
 mod wanted;
 
-pub use class_table::ClassTable;
 pub use laws::well_typed_exactly;
 pub use projects::first_break;

@@ -1,0 +1,20 @@
+# What the benches share. They set `runs`, the number of runs of each command, and `work`, a folder of their own.
+
+failed=0
+
+# the least time in microseconds that a command took
+best_of() {
+    local best="" began took
+    for _ in $(seq "$runs"); do
+        began=$(date +%s%N)
+        "$@" >"$work/written"
+        took=$((($(date +%s%N) - began) / 1000))
+        if [ -z "$best" ] || [ "$took" -lt "$best" ]; then best=$took; fi
+    done
+    echo "$best"
+}
+
+# says whether a number is at most another
+check() {
+    if [ "$2" -le "$3" ]; then echo "yes: $1"; else echo "no: $1"; failed=1; fi
+}

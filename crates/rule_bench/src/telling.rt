@@ -1,6 +1,5 @@
 ghost use Rattle.std.specs.Prelude.{◌≡◌, ◌≤◌, ℕ, Err, IfOk, length, string_bytes};
-ghost use Rattle.cfj_model.specs.Faults.{IsFirstFault};
-ghost use Rattle.fj_parser.specs.Built.{built};
+ghost use Rattle.cfj_model.specs.Faults.{IsFirstFault, projects};
 ghost use Rattle.rule_bench.specs.Telling.{IsTold, break_line};
 
 use cfj_model::{ParseFault, Rule, Site};
@@ -22,7 +21,7 @@ fn line(alloc: Global, found: Option<(Site, Rule)>) -> Result<String, AllocError
 pub fn told(alloc: Global, text: &[u8]) -> Result<String, ParseFault>
     requires { length text.now ≤ 4194304 }
     ensures told { IfOk result (λ line. IsTold text.now (string_bytes line)) }
-    ensures fault { (at : ℕ) (kind : _) → result ≡ Err (ParseFault.At at kind) → IsFirstFault built text.now at kind }
+    ensures fault { (at : ℕ) (kind : _) → result ≡ Err (ParseFault.At at kind) → IsFirstFault projects text.now at kind }
 {
     let project = parse_project(alloc, text)?;
     let found = first_break(alloc, &project)?;

@@ -1,5 +1,6 @@
 -- The names in the roles of tokens: they are identifiers, and short where the roles break nothing.
 use Rattle.std.proofs.Common.{◌≡◌, ℕ, ◌+◌, Bool, true, false, ◌&&◌, not, if◌then◌else◌, List, [], ◌∷◌, ◌++◌, Option, Some, None, refl, sym, ap, subst, ◌∙◌}
+use Rattle.std.specs.Borrow.{Bor}
 use Rattle.std.proofs.lemmas.Bool.{true≢false, and_from}
 use Rattle.std.proofs.lemmas.Option.{none-some}
 use Rattle.cfj_model.specs.declared.fault.FaultKind.{FaultKind}
@@ -19,7 +20,9 @@ use Rattle.fj_parser.specs.declared.mode.Mode.{Mode}
 use Rattle.fj_parser.specs.declared.mode.Mode.TheVariants.{InConstraint, AfterAt, AfterMark, AfterClass, AfterParamType, InExpression}
 use Rattle.fj_parser.specs.declared.mode.Node.TheVariants as node
 use Rattle.fj_parser.specs.declared.mode.Owner.TheVariants as owner
-use Rattle.fj_symbols.specs.Views.{is_identifier_role, is_name_token, is_read}
+use Rattle.fj_symbols.specs.Views.{is_identifier_role, is_name_token, is_read, symbol_seen}
+use Rattle.fj_symbols.specs.declared.symbol.Symbol.{Symbol}
+use Rattle.fj_symbols.specs.declared.symbol.Symbol.TheVariants as symbol
 
 -- ---- identifiers
 
@@ -157,3 +160,8 @@ unnamed_fits_in m s token t other h = unnamed_token token other
 
 pub unnamed_fits : (s : State) (token : Token) → is_id token ≡ false → WaitedWithin s token → names_fit_in s.mode s token ≡ true
 unnamed_fits s token other h = unnamed_fits_in s.mode s token h.met other h.within
+
+-- a symbol that is no identifier
+pub unnamed_symbol : (x : Symbol) → ((w : Bor (List ℕ)) → x ≡ symbol.Id w → ⊥) → is_id (symbol_seen x) ≡ false
+unnamed_symbol (symbol.Id w) other = absurd (other w refl)
+unnamed_symbol _ other = refl

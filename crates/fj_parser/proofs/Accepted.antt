@@ -122,9 +122,11 @@ nothing_breaks t place kind b = go b.before b.all
     go (x ∷ xs) e = absurd (let no : ⊥ = cc e in no)
 
 -- A role that waited breaks something.
-pub waited_told : (s : State) (t : Tally) (w : Waiting) (token : Token) (at : ℕ) (u : Tally) (refusal : Refusal) → waiting_roles w ≡ pending s → AreCounted t (expression.settled (settles s token) (waiting_roles w)) (waiting_places w) u (Some refusal) → IsToldAt reader s t (waiting_places w) token at refusal.at refusal.kind
-waited_told s t w token at u refusal is h =
-    let b : IsBrokenAt t (expression.settled (settles s token) (pending s)) (waiting_places w) refusal.at refusal.kind = subst (λ rs. IsBrokenAt t (expression.settled (settles s token) rs) (waiting_places w) refusal.at refusal.kind) is h in
+pub waited_told : (s : State) (t : Tally) (w : Waiting) (token : Token) (at : ℕ) (u : Tally) (c : Settling) (found : Option Refusal) (refusal : Refusal) → c ≡ settles s token → found ≡ Some refusal → waiting_roles w ≡ pending s → AreCounted t (expression.settled c (waiting_roles w)) (waiting_places w) u found → IsToldAt reader s t (waiting_places w) token at refusal.at refusal.kind
+waited_told s t w token at u c found refusal settling some is h =
+    let first : IsBrokenAt t (expression.settled c (waiting_roles w)) (waiting_places w) refusal.at refusal.kind = subst (AreCounted t (expression.settled c (waiting_roles w)) (waiting_places w) u) some h in
+    let same : expression.settled c (waiting_roles w) ≡ expression.settled (settles s token) (pending s) = ap (λ k. expression.settled k (waiting_roles w)) settling ∙ ap (expression.settled (settles s token)) is in
+    let b : IsBrokenAt t (expression.settled (settles s token) (pending s)) (waiting_places w) refusal.at refusal.kind = subst (λ rs. IsBrokenAt t rs (waiting_places w) refusal.at refusal.kind) same first in
     record { place = b.place; refused = go b.place b.breaks (step s token) refl; there = get-append (waiting_places w) (at ∷ []) b.place refusal.at b.there }
   where
     waits_so : (place : ℕ) → step s token ≡ None → (c : Settling) → settles s token ≡ c → BreaksAt t (expression.settled c (pending s)) place refusal.kind → IsRefused reader s t token place refusal.kind
@@ -141,9 +143,11 @@ pub record Waited (s : State) (t : Tally) (token : Token) (u : Tally) : Type 0 w
   pub within : AreWithin t (expression.settled (settles s token) (pending s))
   pub counts : u ≡ tallied t (expression.settled (settles s token) (pending s))
 
-pub waited : (s : State) (t : Tally) (w : Waiting) (token : Token) (u : Tally) → waiting_roles w ≡ pending s → AreCounted t (expression.settled (settles s token) (waiting_roles w)) (waiting_places w) u None → Waited s t token u
-waited s t w token u is h =
-    record { within = subst (λ rs. AreWithin t (expression.settled (settles s token) rs)) is h.0; counts = h.1 ∙ ap (λ rs. tallied t (expression.settled (settles s token) rs)) is }
+pub waited : (s : State) (t : Tally) (w : Waiting) (token : Token) (u : Tally) (c : Settling) (found : Option Refusal) → c ≡ settles s token → found ≡ None → waiting_roles w ≡ pending s → AreCounted t (expression.settled c (waiting_roles w)) (waiting_places w) u found → Waited s t token u
+waited s t w token u c found settling none is h =
+    let fine : AreCounted t (expression.settled c (waiting_roles w)) (waiting_places w) u None = subst (AreCounted t (expression.settled c (waiting_roles w)) (waiting_places w) u) none h in
+    let same : expression.settled c (waiting_roles w) ≡ expression.settled (settles s token) (pending s) = ap (λ k. expression.settled k (waiting_roles w)) settling ∙ ap (expression.settled (settles s token)) is in
+    record { within = subst (AreWithin t) same fine.0; counts = fine.1 ∙ ap (tallied t) same }
 
 pub waited_within : (s : State) (t : Tally) (token : Token) (u : Tally) → Waited s t token u → WaitedWithin s token
 waited_within s t token u h = record { met = t; within = h.within }

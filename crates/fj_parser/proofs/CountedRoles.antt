@@ -51,10 +51,6 @@ both_counted t u v r q p o None first second =
 both_counted t u v r q p o (Some refusal) first second =
     broken_behind t r (q ∷ []) p (o ∷ []) refusal.at refusal.kind first.0.0 (subst (λ z. IsBrokenAt z (q ∷ []) (o ∷ []) refusal.at refusal.kind) first.1 second)
 
--- the first of two
-pub first_broken : (t u : Tally) (r q : Role) (p o : ℕ) (refusal : Refusal) → AreCounted t (r ∷ []) (p ∷ []) u (Some refusal) → AreCounted t (r ∷ (q ∷ [])) (p ∷ (o ∷ [])) u (Some refusal)
-first_broken t u r q p o refusal h = broken_more t (r ∷ []) (q ∷ []) (p ∷ []) (o ∷ []) refusal.at refusal.kind h
-
 -- and a bracket that closes, which breaks nothing and counts for nothing
 plain_counted : (t u : Tally) (r q : Role) (p o x : ℕ) (result : Option Refusal) → AreCounted t (r ∷ (q ∷ [])) (p ∷ (o ∷ [])) u result → AreCounted t (r ∷ (q ∷ (plain ∷ []))) (p ∷ (o ∷ (x ∷ []))) u result
 plain_counted t u r q p o x None h = ((h.0.0, (h.0.1.0, (refl, tt))), h.1)
@@ -64,16 +60,6 @@ plain_counted t u r q p o x (Some refusal) h = broken_more t (r ∷ (q ∷ [])) 
 
 stayed : {A : Type 0} (c : Settling) → (c ≡ Stays → ⊥) → c ≡ Stays → A
 stayed c other is = absurd (other is)
-
-pub bracket_settled : (c : Settling) → (c ≡ Stays → ⊥) → (t u : Tally) (d at : ℕ) (result : Option Refusal) → AreCounted t (settled_role c (opens d) ∷ []) (at ∷ []) u result → AreCounted t (expression.settled c (opens d ∷ [])) (at ∷ []) u result
-bracket_settled Stays other t u d at result h = stayed Stays other refl
-bracket_settled Bracket other t u d at result h = h
-bracket_settled Cast other t u d at result h = h
-
-pub name_settled : (c : Settling) → (c ≡ Stays → ⊥) → (t u : Tally) (d : ℕ) (w : List ℕ) (p o : ℕ) (result : Option Refusal) → AreCounted t (settled_role c (opens d) ∷ (settled_role c (var_name w) ∷ [])) (p ∷ (o ∷ [])) u result → AreCounted t (expression.settled c (opens d ∷ (var_name w ∷ []))) (p ∷ (o ∷ [])) u result
-name_settled Stays other t u d w p o result h = stayed Stays other refl
-name_settled Bracket other t u d w p o result h = h
-name_settled Cast other t u d w p o result h = h
 
 pub closed_settled : (c : Settling) → (c ≡ Stays → ⊥) → (t u : Tally) (d : ℕ) (w : List ℕ) (p o x : ℕ) (result : Option Refusal) → AreCounted t (settled_role c (opens d) ∷ (settled_role c (var_name w) ∷ [])) (p ∷ (o ∷ [])) u result → AreCounted t (expression.settled c (opens d ∷ (var_name w ∷ (plain ∷ [])))) (p ∷ (o ∷ (x ∷ []))) u result
 closed_settled Stays other t u d w p o x result h = stayed Stays other refl

@@ -1,16 +1,17 @@
 -- The names in the roles of tokens: they are identifiers, and short where the roles break nothing.
 use Rattle.std.proofs.Common.{◌≡◌, ℕ, ◌+◌, Bool, true, false, ◌&&◌, not, if◌then◌else◌, List, [], ◌∷◌, ◌++◌, Option, Some, None, refl, sym, ap, subst, ◌∙◌}
+use Rattle.std.specs.Borrow.{Bor}
 use Rattle.std.proofs.lemmas.Bool.{true≢false, and_from}
 use Rattle.std.proofs.lemmas.Option.{none-some}
 use Rattle.cfj_model.specs.declared.fault.FaultKind.{FaultKind}
 use Rattle.cfj_model.specs.Names.{is_identifier, is_name}
-use Rattle.cfj_model.specs.Roles.{Tally, broken_by, is_long, AreWithin}
+use Rattle.cfj_model.specs.Roles.{Role, Tally, broken_by, is_long, AreWithin}
 use Rattle.cfj_model.specs.Tokens.{Token, Id, NewWord, ThisWord, TrueWord, FalseWord, OpenParen, Bang, Ampersand, Bar, Arrow, DoubleArrow, Dot}
 use Rattle.expression_reader.specs.declared.mode.Mode as reading
 use Rattle.expression_reader.specs.declared.mode.Mode.TheVariants as at
 use Rattle.expression_reader.specs.Machine as expression
 use Rattle.expression_reader.specs.Views.{is_short, settles_short}
-use Rattle.expression_reader.proofs.Short.{is_name_of, roles_short}
+use Rattle.expression_reader.proofs.Short.{is_name_of, own_short, roles_short}
 use Rattle.formula_reader.specs.Machine as formula
 use Rattle.fj_parser.specs.Machine.{State, emitted, name_role, pending, pending_in, role, role_in, settles, settles_in, token_role, waits, waits_in}
 use Rattle.fj_parser.specs.MachineViews.{names_fit_in}
@@ -19,7 +20,9 @@ use Rattle.fj_parser.specs.declared.mode.Mode.{Mode}
 use Rattle.fj_parser.specs.declared.mode.Mode.TheVariants.{InConstraint, AfterAt, AfterMark, AfterClass, AfterParamType, InExpression}
 use Rattle.fj_parser.specs.declared.mode.Node.TheVariants as node
 use Rattle.fj_parser.specs.declared.mode.Owner.TheVariants as owner
-use Rattle.fj_symbols.specs.Views.{is_identifier_role, is_name_token, is_read}
+use Rattle.fj_symbols.specs.Views.{is_identifier_role, is_name_token, is_read, symbol_seen}
+use Rattle.fj_symbols.specs.declared.symbol.Symbol.{Symbol}
+use Rattle.fj_symbols.specs.declared.symbol.Symbol.TheVariants as symbol
 
 -- ---- identifiers
 
@@ -105,14 +108,29 @@ formula_fits : (f : formula.State) (token : Token) (t : Tally) → is_read token
 formula_fits f (Id w) t h fine = named w h (untold _ _ _ fine)
 formula_fits f _ t h fine = refl
 
-fits_in : (m : Mode) (s : State) (token : Token) (t : Tally) → is_read token ≡ true → AreWithin t (expression.settled (settles_in m s token) (pending_in m s) ++ expression.unless (waits_in m s token) (role_in m s token)) → names_fit_in m s token ≡ true
-fits_in InExpression s token t h within = roles_short s.expression token t within
-fits_in InConstraint s token t h within = formula_fits s.formula token t h within.0
-fits_in m s token t h within = token_fits m token t h within.0
+fits_in : (m : Mode) (s : State) (token : Token) (t u : Tally) → is_read token ≡ true → AreWithin t (expression.settled (settles_in m s token) (pending_in m s)) → broken_by u (role_in m s token) ≡ None → names_fit_in m s token ≡ true
+fits_in InExpression s token t u h within fine = own_short s.expression token t u within fine
+fits_in InConstraint s token t u h within fine = formula_fits s.formula token u h fine
+fits_in m s token t u h within fine = token_fits m token u h fine
 
--- The names that a token settles are short where the roles that it settles break nothing.
-pub names_fit : (s : State) (token : Token) (t : Tally) → is_read token ≡ true → AreWithin t (emitted s token) → names_fit_in s.mode s token ≡ true
-names_fit s token t h within = fits_in s.mode s token t h within
+-- The names that a token settles are short where what waited breaks nothing, and the token's own role breaks nothing.
+pub names_fit : (s : State) (token : Token) (u : Tally) → is_read token ≡ true → WaitedWithin s token → broken_by u (role s token) ≡ None → names_fit_in s.mode s token ≡ true
+names_fit s token u h w fine = fits_in s.mode s token w.met u h w.within fine
+
+-- ---- where the token itself waits
+
+nothing_more : (rs : List Role) → rs ++ [] ≡ rs
+nothing_more [] = refl
+nothing_more (r ∷ rs) = ap (λ x. r ∷ x) (nothing_more rs)
+
+waiting_fits_in : (m : Mode) (s : State) (token : Token) (t : Tally) → waits_in m s token ≡ true → AreWithin t (expression.settled (settles_in m s token) (pending_in m s)) → names_fit_in m s token ≡ true
+waiting_fits_in InExpression s token t own within =
+    let waited : List Role = expression.settled (expression.settles s.expression token) (expression.pending s.expression) in
+    roles_short s.expression token t (subst (λ b. AreWithin t (waited ++ expression.unless b (expression.role s.expression token))) (sym own) (subst (AreWithin t) (sym (nothing_more waited)) within))
+waiting_fits_in _ s token t own within = absurd (true≢false (sym own))
+
+pub waiting_fits : (s : State) (token : Token) → waits s token ≡ true → WaitedWithin s token → names_fit_in s.mode s token ≡ true
+waiting_fits s token own w = waiting_fits_in s.mode s token w.met own w.within
 
 -- ---- where the token itself is no name
 
@@ -142,3 +160,8 @@ unnamed_fits_in m s token t other h = unnamed_token token other
 
 pub unnamed_fits : (s : State) (token : Token) → is_id token ≡ false → WaitedWithin s token → names_fit_in s.mode s token ≡ true
 unnamed_fits s token other h = unnamed_fits_in s.mode s token h.met other h.within
+
+-- a symbol that is no identifier
+pub unnamed_symbol : (x : Symbol) → ((w : Bor (List ℕ)) → x ≡ symbol.Id w → ⊥) → is_id (symbol_seen x) ≡ false
+unnamed_symbol (symbol.Id w) other = absurd (other w refl)
+unnamed_symbol _ other = refl

@@ -14,7 +14,7 @@ use Rattle.fj_lexer.specs.declared.token.Token as lexer
 use Rattle.fj_lexer.specs.declared.token.LexFault.{LexFault}
 use Rattle.fj_parser.specs.Accepting.{IsTaken, IsToldAt, IsTold, of_waiting, of_lexer}
 use Rattle.fj_parser.specs.Laws.{Reads}
-use Rattle.fj_parser.specs.Readers.{Reader}
+use Rattle.fj_parser.specs.Readers.{Reader, IsReached}
 use Rattle.fj_parser.specs.Reading.{IsReading, IsPlaced, fault_kind, fault_place}
 use Rattle.fj_symbols.specs.Views.{is_read, token_read}
 use Rattle.fj_parser.proofs.LexedTokens.{token_given, FaultGiven, fault_given, read_is}
@@ -41,11 +41,20 @@ token_reads old new r token seen g e is =
       place = t.is.place;
     }
 
+-- what is told where nothing that waits breaks anything
+pub lexical_told : (t : Tally) (rs : List Role) (places : List ℕ) (found : LexFault) (at : ℕ) (kind : FaultKind) → at ≡ fault_place found → kind ≡ fault_kind found → AreWithin t rs → IsTold t rs places found at kind
+lexical_told t rs places found at kind there is within =
+    subst (λ a. IsTold t rs places found a kind) (sym there) (subst (IsTold t rs places found (fault_place found)) (sym is) (of_lexer within))
+
 -- it is one that a text can have
 module _ {V : Type 0} (l : Language V) (m : Reader) (laws : Reads l m) where
   pub token_is_read : (text rest next : List ℕ) (at : ℕ) (seen : Token) (s : m.State) (t : Tally) → IsUtf8 text → IsReading l m text rest s t → TokenRead text rest next at seen → is_read seen ≡ true
   token_is_read text rest next at seen s t utf8 h r =
       subst (λ x. is_read x ≡ true) (sym r.is) (next_is_read (chars rest) r.lexeme r.from (chars next) (takes_scalars (chars text) h.tokens (chars rest) (scalars_of text utf8) h.taken) r.found)
+
+  -- the tokens that are read lead here
+  pub reached : (text rest : List ℕ) (s : m.State) (t : Tally) → IsReading l m text rest s t → IsReached m s
+  reached text rest s t h = record { tokens = h.tokens; roles = h.roles; ran = h.ran }
 
   -- reading goes on by it
   pub token_goes : (text rest next : List ℕ) (at : ℕ) (seen : Token) (s n : m.State) (t u : Tally) (places : List ℕ) (roles : List Role) (left : List ℕ) → IsPlaced l m text rest s t places → TokenRead text rest next at seen → IsTaken m s t places seen at n u roles left → IsPlaced l m text next n u left

@@ -17,8 +17,6 @@ mod params;
 mod parser;
 mod role;
 mod settle;
-mod scratch_p4;
 mod waiting;
 
-pub use scratch_p4::look;
 pub use parser::parse_project;

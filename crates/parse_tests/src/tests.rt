@@ -1,4 +1,5 @@
 mod bodies;
+mod copies;
 mod limits;
 mod methods;
 mod slow;

@@ -149,7 +149,7 @@ fn a_print_stops_where_its_sink_fails(rt: HostRuntime) -> Result<(), Fail> {
     let alloc = rt.alloc();
     let text = many_classes(alloc, 600)?;
     let text = text.as_str();
-    let mut failed = 0;
+    let mut failed: u64 = 0;
     // The print goes out in pieces; each put in turn fails, up to the last.
     for call in 0..100 {
         let Some((held, whole)) = printed(alloc, text, &[call])? else {
@@ -160,7 +160,7 @@ fn a_print_stops_where_its_sink_fails(rt: HostRuntime) -> Result<(), Fail> {
             assert!(rt; held.as_slice() == text.as_bytes());
             break;
         }
-        failed += 1;
+        failed = failed.saturating_add(1);
         assert!(rt; held.len() < text.len());
         assert!(rt; text.as_bytes().starts_with(held.as_slice()), "at put {call}");
     }

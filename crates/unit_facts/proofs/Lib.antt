@@ -1,0 +1,5 @@
+pub mod ClauseCodes
+pub mod FewClauses
+pub mod OfModel
+pub mod Selected
+pub mod Written

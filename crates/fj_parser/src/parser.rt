@@ -108,9 +108,23 @@ fn read_tokens<'a>(
             Ok(token) => token,
             Err(fault) => return Err(fault_of(first_fault(alloc, tally, waiting, fault)?)),
         };
-        take(alloc, machine, tally, &mut waiting, symbol_of(token), token.at)?;
+        take(
+            alloc,
+            machine,
+            tally,
+            &mut waiting,
+            symbol_of(token),
+            token.at,
+        )?;
     }
-    take(alloc, machine, tally, &mut waiting, Symbol::End, lexer.text.len())
+    take(
+        alloc,
+        machine,
+        tally,
+        &mut waiting,
+        Symbol::End,
+        lexer.text.len(),
+    )
 }
 
 /// The feature model and the classes of a text.

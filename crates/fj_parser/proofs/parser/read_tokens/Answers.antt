@@ -1,4 +1,4 @@
-use Rattle.std.proofs.Common.{◌≡◌, ℕ, List, [], Err, refl, ap, subst, sym, ◌∙◌, length}
+use Rattle.std.proofs.Common.{◌≡◌, ℕ, List, Err, refl, ap, subst, sym, ◌∙◌, length}
 use Rattle.std.proofs.lemmas.Result.{err_from_is_err_and, on_ok_weaker}
 use Rattle.std.specs.Str.{chars}
 use Rattle.cfj_model.specs.Lexemes.{next_lexeme}
@@ -12,8 +12,6 @@ use Rattle.fj_tally.specs.Views.{tally_seen}
 use Rattle.fj_symbols.specs.Views.{symbol_seen}
 use Rattle.fj_parser.specs.Accepting.{IsToldAt, IsTold}
 use Rattle.fj_parser.specs.Machine.{pending, reader}
-use Rattle.fj_parser.specs.Reading.{IsReading}
-use Rattle.fj_parser.specs.Readers.{IsReached}
 use Rattle.fj_parser.specs.Waiting.{waiting_places, waiting_roles}
 use Rattle.fj_parser.proofs.LexedTokens.{end_given}
 use Rattle.fj_parser.proofs.Counted.{counts_more, roomy}

@@ -35,13 +35,9 @@ map_or : {A B : Type 0} (f : A → B) (a b : Option A) → option_map f (option_
 map_or f None b = refl
 map_or f (Some x) b = refl
 
-map_twice : {A B C : Type 0} (f : A → B) (g : B → C) (h : A → C) → ((x : A) → g (f x) ≡ h x) → (o : Option A) → option_map g (option_map f o) ≡ option_map h o
-map_twice f g h same None = refl
-map_twice f g h same (Some x) = ap Some (same x)
-
 -- ---- lists of what is judged
 
-pub first_append : (js ks : List Judged) → first_judged (js ++ ks) ≡ option_or (first_judged js) (first_judged ks)
+first_append : (js ks : List Judged) → first_judged (js ++ ks) ≡ option_or (first_judged js) (first_judged ks)
 first_append js ks = ap (option_map pair_of) (find-append (λ (j : Judged). j.breaks) js ks) ∙ map_or pair_of (find (λ (j : Judged). j.breaks) js) (find (λ (j : Judged). j.breaks) ks)
 
 -- the pair of a site's rule
@@ -49,7 +45,7 @@ abbrev at_site : Site → Option Rule → Option Pair
 at_site s o = option_map (λ r. (s, r)) o
 
 -- a site's first rule
-pub first_at : (s : Site) (vs : List Verdict) → first_judged (judged_at s vs) ≡ at_site s (first_rule vs)
+first_at : (s : Site) (vs : List Verdict) → first_judged (judged_at s vs) ≡ at_site s (first_rule vs)
 first_at s [] = refl
 first_at s (v ∷ vs) = go v.1 (first_at s vs)
   where
@@ -120,7 +116,7 @@ module _ {A : Type 0} (of : A → List Judged) (xs : List A) (i : ℕ) where
 -- ---- parameters
 
 -- the pair of a parameter whose type isn't known
-abbrev pub at_param : (Param → Site) → Param → Pair
+abbrev at_param : (Param → Site) → Param → Pair
 at_param at q = (at q, K1)
 
 params_first : (at : Param → Site) (p : Table) (qs : List Param)
@@ -193,12 +189,12 @@ module _ (p : Table) (g : Environment) (x : Expr) where
       go (Some t) q = absurd (unlike (sym (typed_first p g x t q) ∙ first))
 
   -- the type of a body is the one that is found
-  pub type_found : (r : Outcome) → IsFound (judged_expr p g x) r → (judged_expr p g x).type ≡ found_type r
+  type_found : (r : Outcome) → IsFound (judged_expr p g x) r → (judged_expr p g x).type ≡ found_type r
   type_found (outcome.Typed t) found = found
   type_found (outcome.Breaks slot rule) found = no_type (slot, rule) found
 
   -- and so is its first break
-  pub break_found : (k : Class) (m : Method) (r : Outcome) → IsFound (judged_expr p g x) r
+  break_found : (k : Class) (m : Method) (r : Outcome) → IsFound (judged_expr p g x) r
       → option_map (at_node (λ n. site.Node k.name m.name m.alt n)) (first_node ((judged_expr p g x).rules [])) ≡ found_break k m r
   break_found k m (outcome.Typed t) found = ap (option_map (at_node (λ n. site.Node k.name m.name m.alt n))) (typed_first p g x t.now found)
   break_found k m (outcome.Breaks slot rule) found = ap (option_map (at_node (λ n. site.Node k.name m.name m.alt n))) found

@@ -2,12 +2,10 @@
 use Rattle.std.proofs.Common.{◌≡◌, ℕ, zero, suc, ◌+◌, ◌<◌, ◌≤◌, true, false, not, List, [], ◌∷◌, ◌++◌, length, map, take, drop, slice_index_or, Option, Some, None, option_map, Bor, refl, sym, ◌∙◌, ap, ap₂, arith, add-one}
 use Rattle.std.proofs.lemmas.List.{append_assoc}
 use Rattle.std.proofs.Math.Seq.{take-length}
-use Rattle.cfj_model.specs.LookUps.{Table, is_subtype, fields_of}
-use Rattle.cfj_model.specs.Judging.{misfits}
+use Rattle.cfj_model.specs.LookUps.{fields_of}
 use Rattle.cfj_model.specs.declared.class.Class.{Class}
 use Rattle.cfj_model.specs.declared.class.Field.{Field}
 use Rattle.plain_fj.specs.ByName.{seen}
-use Rattle.plain_fj.specs.Finding.{first_true}
 use Rattle.plain_fj.specs.Found.{names}
 
 -- ---- lists by places
@@ -72,49 +70,3 @@ chain_more ks left less k ms ns so_far e lt at more =
     ∙ ap (λ z. z ++ own_types k.now.fields) (so_far ∙ ap (λ n. own_types (fields_of (seen (drop n ks)))) (e ∙ sym (add-one less)))
     ∙ sym (map_append (λ (f : Field). f.of) (fields_of (seen (drop (less + 1) ks))) k.now.fields)
     ∙ ap (λ z. own_types (fields_of (seen z))) (sym (drop_at ks less k lt at))
-
--- ---- misfits
-
--- the first of those from a place on
-abbrev pub from_place : ℕ → Option ℕ → Option ℕ
-from_place i o = option_map (λ j. i + j) o
-
-abbrev pub IsScanned : Table → List (Bor (List ℕ)) → List (Bor (List ℕ)) → ℕ → Type 0
-IsScanned p ts ws i = first_true (misfits p (names ts) (names ws)) ≡ from_place i (first_true (misfits p (names (drop i ts)) (names (drop i ws))))
-
-from_zero : (o : Option ℕ) → o ≡ from_place 0 o
-from_zero None = refl
-from_zero (Some j) = let e : j ≡ 0 + j = omega arith in ap Some e
-
-pub scan_begins : (p : Table) (ts ws : List (Bor (List ℕ))) → IsScanned p ts ws 0
-scan_begins p ts ws = from_zero (first_true (misfits p (names ts) (names ws)))
-
-scan_here : (p : Table) (ts ws : List (Bor (List ℕ))) (i : ℕ) (t w : Bor (List ℕ)) → i < length ts → i < length ws → t ≡ slice_index_or ts i t → w ≡ slice_index_or ws i w
-    → misfits p (names (drop i ts)) (names (drop i ws)) ≡ not (is_subtype p t.now w.now) ∷ misfits p (names (drop (i + 1) ts)) (names (drop (i + 1) ws))
-scan_here p ts ws i t w lt lw at aw = ap₂ (λ a b. misfits p (names a) (names b)) (drop_at ts i t lt at) (drop_at ws i w lw aw)
-
-pub scan_found : (p : Table) (ts ws : List (Bor (List ℕ))) (i : ℕ) (t w : Bor (List ℕ)) → IsScanned p ts ws i → length ts ≡ length ws → i < length ts → t ≡ slice_index_or ts i t → w ≡ slice_index_or ws i w
-    → is_subtype p t.now w.now ≡ false → Some i ≡ first_true (misfits p (names ts) (names ws))
-scan_found p ts ws i t w scanned same lt at aw misfit =
-    let place : i ≡ i + 0 = omega arith in
-    let lw : i < length ws = omega (arith, same, lt) in
-    ap Some place
-    ∙ ap (λ b. from_place i (first_true (not b ∷ misfits p (names (drop (i + 1) ts)) (names (drop (i + 1) ws))))) (sym misfit)
-    ∙ ap (λ z. from_place i (first_true z)) (sym (scan_here p ts ws i t w lt lw at aw))
-    ∙ sym scanned
-
-from_next : (i : ℕ) (o : Option ℕ) → from_place i (option_map (λ j. suc j) o) ≡ from_place (i + 1) o
-from_next i None = refl
-from_next i (Some j) = let e : i + suc j ≡ i + 1 + j = omega arith in ap Some e
-
-pub scan_on : (p : Table) (ts ws : List (Bor (List ℕ))) (i : ℕ) (t w : Bor (List ℕ)) → IsScanned p ts ws i → length ts ≡ length ws → i < length ts → t ≡ slice_index_or ts i t → w ≡ slice_index_or ws i w
-    → is_subtype p t.now w.now ≡ true → IsScanned p ts ws (i + 1)
-scan_on p ts ws i t w scanned same lt at aw fits =
-    let lw : i < length ws = omega (arith, same, lt) in
-    scanned
-    ∙ ap (λ z. from_place i (first_true z)) (scan_here p ts ws i t w lt lw at aw)
-    ∙ ap (λ b. from_place i (first_true (not b ∷ misfits p (names (drop (i + 1) ts)) (names (drop (i + 1) ws))))) fits
-    ∙ from_next i (first_true (misfits p (names (drop (i + 1) ts)) (names (drop (i + 1) ws))))
-
-pub scan_none : (p : Table) (ts ws : List (Bor (List ℕ))) (i : ℕ) → IsScanned p ts ws i → length ts ≤ i → None ≡ first_true (misfits p (names ts) (names ws))
-scan_none p ts ws i scanned le = ap (λ z. from_place i (first_true (misfits p (names z) (names (drop i ws))))) (sym (drop_past ts i le)) ∙ sym scanned

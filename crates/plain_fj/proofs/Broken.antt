@@ -7,19 +7,22 @@ use Rattle.std.proofs.lemmas.Grind.{flat_map-append}
 use Rattle.std.proofs.lemmas.List.{append_assoc, append-nil, map-append}
 use Rattle.std.proofs.lemmas.List.Elements.{filter-append}
 use Rattle.cfj_model.specs.LookUps.{Table, ancestors, field_called, first_some}
-use Rattle.cfj_model.specs.Judging.{Breaks, Judged, Pair, Verdict, first_breaking, judged, judged_at, judged_class, pair_of}
+use Rattle.cfj_model.specs.Judging.{Breaks, Judged, JudgedExpr, Pair, Verdict, environment_of, first_breaking, judged, judged_at, judged_class, judged_expr, pair_of}
 use Rattle.cfj_model.specs.ProductLines.{ProductLine, IsProject}
 use Rattle.cfj_model.specs.Typing.{IsWellTyped}
 use Rattle.cfj_model.specs.UnitClauses.{Has}
 use Rattle.cfj_model.specs.declared.class.Class.{Class}
 use Rattle.cfj_model.specs.declared.class.Field.{Field}
+use Rattle.cfj_model.specs.declared.class.Method.{Method}
+use Rattle.cfj_model.specs.declared.class.Param.{Param}
 use Rattle.cfj_model.specs.declared.site.Rule.{Rule}
 use Rattle.cfj_model.specs.declared.site.Site.{Site}
-use Rattle.plain_fj.specs.Breaking.{Adds, breaking, broken, told}
+use Rattle.cfj_model.specs.declared.site.Site.TheVariants as site
+use Rattle.plain_fj.specs.Breaking.{Adds, at_slots, breaking, broken, told}
 use Rattle.plain_fj.specs.ByName.{seen}
 use Rattle.plain_fj.specs.declared.site_break.Break.{Break}
 use Rattle.plain_fj.proofs.Members.{unlike, not_true, has_none, has_cases, has_rest, has_map, has_filter, filter_has}
-use Rattle.plain_fj.proofs.TypeLists.{drop_at, drop_past}
+use Rattle.plain_fj.proofs.TypeLists.{drop_at, drop_past, take_more}
 use Rattle.plain_fj.proofs.Law.{well_typed_project}
 
 -- ---- lists of what is judged
@@ -124,6 +127,22 @@ field_hidden p c f ks o above found =
     copied None = refl
     copied (Some x) = refl
 
+-- ---- bodies
+
+module _ (p : Table) (k : Class) (m : Method) (ps : List Param) (named : ps ≡ m.params) where
+  -- the body as it is judged over parameters that are read
+  abbrev body : List Param → JudgedExpr
+  body qs = judged_expr p (record { class = k.name; params = qs }) m.body
+
+  abbrev at : ℕ → Site
+  at n = site.Node k.name m.name m.alt n
+
+  pub body_type : (o : Option (List ℕ)) → o ≡ (body ps).type → o ≡ (judged_expr p (environment_of k m) m.body).type
+  body_type o typed = typed ∙ ap (λ qs. (body qs).type) named
+
+  pub body_adds : (a b : List Break) → Adds a b (at_slots at ((body ps).rules [])) → Adds a b (at_slots at ((judged_expr p (environment_of k m) m.body).rules []))
+  body_adds a b adds = subst (λ qs. Adds a b (at_slots at ((body qs).rules []))) named adds
+
 -- ---- projects
 
 pub class_of_table : (p q : Table) (k : Class) (a b : List Break) → q ≡ p → Adds a b (judged_class q k) → Adds a b (judged_class p k)
@@ -156,6 +175,12 @@ has_broken p found is s r = (
         same : (j : Judged) → j.breaks ≡ true → pair_of j ≡ (s, r) → j ≡ record { site = s; rule = r; breaks = true }
         same j b e =
             ap₂ (λ (q : Pair) (b : Bool). let w : Judged = record { site = q.0; rule = q.1; breaks = b } in w) e b
+
+-- one more pair
+pub told_more : (xs : List Break) (i : ℕ) (x : Break) (ps qs : List Pair) (q : Pair) → ps ≡ map told (take i xs) → i < length xs → x ≡ slice_index_or xs i x → q ≡ told x → qs ≡ ps ++ q ∷ []
+    → qs ≡ map told (take (i + 1) xs)
+told_more xs i x ps qs q so_far lt at is pushed =
+    pushed ∙ ap₂ (λ z w. z ++ w ∷ []) so_far is ∙ sym (map-append told (take i xs) (x ∷ [])) ∙ ap (map told) (sym (take_more xs i x lt at))
 
 first_kept : (js : List Judged) → slice_get (broken js) 0 ≡ option_map pair_of (find (λ (j : Judged). j.breaks) js)
 first_kept [] = refl

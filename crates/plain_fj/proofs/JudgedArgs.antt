@@ -81,7 +81,7 @@ module _ (b : Body) where
   types_begin args ns none = ap names none ∙ sym typed_nothing
 
   module _ (args : List Arg) (i : ℕ) (x : Arg) (r : Option (Bor (List ℕ))) (ns : List (Bor (List ℕ))) (before after : List Break) (lt : i < length args) (at : x ≡ slice_index_or args i x)
-    (j : IsJudged b x.expr r before after) (so_far : AreTypesUpTo args i ns) where
+      (j : IsJudged b x.expr r before after) (so_far : AreTypesUpTo args i ns) where
     next_types : typed_of (types (take (i + 1) args)) ≡ names ns ++ typed_of (option_copied r ∷ [])
     next_types =
         ap (λ z. typed_of (types z)) (take_more args i x lt at) ∙ ap typed_of (types_push (take i args) x) ∙ typed_push (types (take i args)) (judged_in b x.expr).type
@@ -95,7 +95,7 @@ module _ (b : Body) where
     types_same is = sym (append-nil (names ns)) ∙ ap (λ z. names ns ++ z) (sym typed_none) ∙ ap (λ o. names ns ++ typed_of (o ∷ [])) (sym (ap option_copied is)) ∙ sym next_types
 
   module _ (args : List Arg) (i : ℕ) (ts : Vec (Bor (List ℕ)) Global) (before after : List Break) (end : i ≡ length args) (so_far : AreTypesUpTo args i ts.items)
-    (added : IsAddedUpTo (λ (a : Arg). nodes_in b a.expr) args i before after) where
+      (added : IsAddedUpTo (λ (a : Arg). nodes_in b a.expr) args i before after) where
     abbrev Found : Type 0
     Found = Option (Vec (Bor (List ℕ)) Global)
 

@@ -26,12 +26,7 @@ pub struct Body<'a, 't> {
 
 impl<'a> Body<'a, '_> {
     /// Adds the break of a rule at the node of this slot.
-    pub fn add(
-        &self,
-        breaks: &mut Vec<Break<'a>>,
-        slot: u16,
-        rule: Rule,
-    ) -> Result<(), AllocError>
+    pub fn add(&self, breaks: &mut Vec<Break<'a>>, slot: u16, rule: Rule) -> Result<(), AllocError>
         ensures { OnOk result (Adds breaks.old.items breaks.new.items (at_nodes self.now ((slot, (rule, true) ∷ []) ∷ []))) }
     {
         let site = SiteRef::Node(self.class, self.method, self.alt, slot);

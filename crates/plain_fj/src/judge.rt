@@ -45,10 +45,14 @@ pub fn judge<'a>(
             let types = judge_args(body, args, breaks)?;
             at_new(body, *slot, class, args, types, breaks)
         }
-        Expr::Cast { slot, class, on } => {
-            body.add_unknown(breaks, *slot, class)?;
+        Expr::Cast {
+            slot,
+            class: target,
+            on,
+        } => {
+            body.add_unknown(breaks, *slot, target)?;
             let operand = judge(body, on.get(), breaks)?;
-            at_cast(body, *slot, class, operand, breaks)
+            at_cast(body, *slot, target, operand, breaks)
         }
     }
 }

@@ -49,7 +49,14 @@ pub fn add_misfits<'a>(
 {
     let mut some = false;
     'each: for place in 0..types.len() {
-        if add_misfit(body, &args[place], types[place], wanted[place], rule, breaks)? {
+        if add_misfit(
+            body,
+            &args[place],
+            types[place],
+            wanted[place],
+            rule,
+            breaks,
+        )? {
             some = true;
         }
     }

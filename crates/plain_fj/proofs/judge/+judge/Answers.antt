@@ -78,15 +78,15 @@ judge-returns-in_ok-types-in-New t c =
 pub judge-returns-in_ok-operand-in-Cast : goal.judge-returns-in_ok-operand-in-Cast
 judge-returns-in_ok-operand-in-Cast t c =
     let b = c.args.body.now in
-    let x = variant.Cast c.in-Cast.slot c.in-Cast.class c.get-in-Cast.result.now in
+    let x = variant.Cast c.in-Cast.slot c.in-Cast.target c.get-in-Cast.result.now in
     let before = c.args.breaks.now.items in
     let last = c.judge-in-Cast.new.breaks.items in
     let after = c.at_cast.new.breaks.items in
     ok_gives
-    (λ (found : Option (Bor (List ℕ))). (on : Expr) (before middle : List Break) → IsNameJudged b c.in-Cast.slot c.in-Cast.class before middle → IsJudged b on c.in_ok-operand-in-Cast.operand middle last
-    → IsJudged b (variant.Cast c.in-Cast.slot c.in-Cast.class on) found before after)
+    (λ (found : Option (Bor (List ℕ))). (on : Expr) (before middle : List Break) → IsNameJudged b c.in-Cast.slot c.in-Cast.target before middle → IsJudged b on c.in_ok-operand-in-Cast.operand middle last
+    → IsJudged b (variant.Cast c.in-Cast.slot c.in-Cast.target on) found before after)
     (λ (found : Option (Bor (List ℕ))). IsJudged b c.args.expr.now found before after)
-    (λ found h. judged_as b c.args.expr.now x found before after (c.in-Cast.is ∙ ap (variant.Cast c.in-Cast.slot c.in-Cast.class) (sym c.get-in-Cast.ensures))
+    (λ found h. judged_as b c.args.expr.now x found before after (c.in-Cast.is ∙ ap (variant.Cast c.in-Cast.slot c.in-Cast.target) (sym c.get-in-Cast.ensures))
     (h c.get-in-Cast.result.now before c.add_unknown-in-Cast.new.breaks.items c.in_ok-add_unknown-in-Cast.ensures c.in_ok-operand-in-Cast.ensures))
     c.at_cast.result c.at_cast.ensures
 
@@ -101,8 +101,7 @@ judge_args-each-preserved t c =
     let x = c.arg-item.result in
     let before = c.each.breaks.items in
     let after = c.judge.new.breaks.items in
-    let found = c.in_ok-of.field-0 in
-    (
+    let found = c.in_ok-of.field-0 in (
       elim c.match-branch-2.branch [
         | judge_args-in-Some+in_ok-push w ↦
             types_more b xs i x found c.each.types.items before after c.each-test.true c.arg-item.is c.in_ok-of.ensures c.each.invariant.0 w.in-Some.of c.match-branch-2.types.items w.in-Some.is

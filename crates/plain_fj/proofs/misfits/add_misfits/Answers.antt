@@ -13,8 +13,7 @@ each-preserved c =
     elim c.if-branch.branch [
       | then-branch w ↦ one_more c.each.some c.in_ok-add_misfit.field-0 c.if-branch.some w.if-branch.true w.some-is
       | else-branch w ↦ no_more c.each.some c.in_ok-add_misfit.field-0 c.if-branch.some w.if-branch.false w.some-is
-    ] in
-    (
+    ] in (
       subst (IsSomeUpTo b c.args.rule c.args.args.now c.args.types.now c.args.wanted.now (c.each.place + 1)) (sym new)
           (some_more b c.args.rule c.args.args.now c.args.types.now c.args.wanted.now c.each.place c.requires.as_many c.requires.wanted c.index-types-place.result c.index-wanted-place.result
           c.each-test.true c.index-types-place.is c.index-wanted-place.is c.each.some c.in_ok-add_misfit.field-0 c.each.invariant.0 c.in_ok-add_misfit.ensures.misfits),

@@ -3,9 +3,6 @@ use Rattle.cfj_model.specs.Judging.{judged_class}
 use Rattle.plain_fj.proofs.Broken.{added_more, added_all, all_judged, class_of_table, drop_get}
 use Rattle.plain_fj.proofs.projects.judge_project.Goals as goal
 
-
-
-
 pub each-preserved : goal.each-preserved
 each-preserved c =
     let p = c.args.project.now.classes in

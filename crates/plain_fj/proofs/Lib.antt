@@ -11,9 +11,13 @@ pub mod Law
 pub mod ByNames
 pub mod Walking
 pub mod Nearest
-pub mod FirstNodes
 pub mod TypeLists
-pub mod Fitted
-pub mod Outcomes
-pub mod FirstBreaks
+pub mod Broken
+pub mod BrokenNodes
+pub mod JudgedNodes
+pub mod ArgumentFits
+pub mod JudgedCalls
+pub mod JudgedNews
+pub mod MisfitScan
+pub mod JudgedArgs
 pub mod SameNames

@@ -1,7 +1,11 @@
 -- Lists of names that are compared place by place.
-use Rattle.std.proofs.Common.{◌≡◌, ℕ, suc, ◌+◌, ◌<◌, ◌≤◌, Bool, true, false, ◌&&◌, List, [], ◌∷◌, length, drop, slice_index_or, Bor, refl, sym, ◌∙◌, ap, ap₂, arith}
+use Rattle.std.proofs.Common.{◌≡◌, ℕ, suc, ◌+◌, ◌<◌, ◌≤◌, Bool, true, false, ◌&&◌, List, [], ◌∷◌, ◌++◌, length, map, drop, slice_index_or, Bor, refl, sym, ◌∙◌, ap, ap₂, arith, add-one}
 use Rattle.std.specs.Str.{bytes_eq}
 use Rattle.cfj_model.specs.Judging.{are_same}
+use Rattle.cfj_model.specs.LookUps.{fields_of}
+use Rattle.cfj_model.specs.declared.class.Class.{Class}
+use Rattle.cfj_model.specs.declared.class.Field.{Field}
+use Rattle.plain_fj.specs.ByName.{seen}
 use Rattle.plain_fj.specs.Found.{names}
 use Rattle.plain_fj.proofs.TypeLists.{drop_at, drop_past}
 
@@ -40,3 +44,21 @@ module _ (xs ys : List (Bor (List ℕ))) (i : ℕ) where
   same_end so_far long le =
       let past : length ys ≤ i = omega (arith, long, le) in
       ap₂ (λ a b. are_same (names a) (names b)) (sym (drop_past xs i le)) (sym (drop_past ys i past)) ∙ so_far
+
+-- ---- the names of fields
+
+map_append : {A B : Type 0} (f : A → B) (xs ys : List A) → map f (xs ++ ys) ≡ map f xs ++ map f ys
+map_append f [] ys = refl
+map_append f (x ∷ xs) ys = ap (λ zs. f x ∷ zs) (map_append f xs ys)
+
+abbrev pub own_names : List Field → List (List ℕ)
+own_names fs = map (λ f. f.name) fs
+
+-- the fields of one more class of a chain, from its end on
+pub names_of_more : (ks : List (Bor Class)) (left less : ℕ) (k : Bor Class) (ms ns : List (List ℕ)) → ns ≡ own_names (fields_of (seen (drop left ks))) → left ≡ suc less → less < length ks
+    → k ≡ slice_index_or ks less k → ms ≡ ns ++ own_names k.now.fields → ms ≡ own_names (fields_of (seen (drop less ks)))
+names_of_more ks left less k ms ns so_far e lt at more =
+    more
+    ∙ ap (λ z. z ++ own_names k.now.fields) (so_far ∙ ap (λ n. own_names (fields_of (seen (drop n ks)))) (e ∙ sym (add-one less)))
+    ∙ sym (map_append (λ (f : Field). f.name) (fields_of (seen (drop (less + 1) ks))) k.now.fields)
+    ∙ ap (λ z. own_names (fields_of (seen z))) (sym (drop_at ks less k lt at))

@@ -1,13 +1,11 @@
--- Lists of names that are collected place by place, and the first of them that misfits.
+-- Lists of types that are collected, and compared place by place.
 use Rattle.std.proofs.Common.{◌≡◌, ℕ, zero, suc, ◌+◌, ◌<◌, ◌≤◌, true, false, not, List, [], ◌∷◌, ◌++◌, length, map, take, drop, slice_index_or, Option, Some, None, option_map, Bor, refl, sym, ◌∙◌, ap, ap₂, arith, add-one}
-use Rattle.std.proofs.lemmas.List.{append_assoc, map-append}
+use Rattle.std.proofs.lemmas.List.{append_assoc}
 use Rattle.std.proofs.Math.Seq.{take-length}
-use Rattle.cfj_model.specs.LookUps.{Table, is_subtype, fields_of}
-use Rattle.cfj_model.specs.Judging.{misfits}
+use Rattle.cfj_model.specs.LookUps.{fields_of}
 use Rattle.cfj_model.specs.declared.class.Class.{Class}
 use Rattle.cfj_model.specs.declared.class.Field.{Field}
 use Rattle.plain_fj.specs.ByName.{seen}
-use Rattle.plain_fj.specs.Finding.{first_true}
 use Rattle.plain_fj.specs.Found.{names}
 
 -- ---- lists by places
@@ -41,7 +39,11 @@ map_push : {A B : Type 0} (f : A → B) (xs : List A) (x : A) → map f (xs ++ x
 map_push f [] x = refl
 map_push f (y ∷ ys) x = ap (λ zs. f y ∷ zs) (map_push f ys x)
 
--- ---- names that are collected
+map_append : {A B : Type 0} (f : A → B) (xs ys : List A) → map f (xs ++ ys) ≡ map f xs ++ map f ys
+map_append f [] ys = refl
+map_append f (x ∷ xs) ys = ap (λ zs. f x ∷ zs) (map_append f xs ys)
+
+-- ---- types that are collected
 
 pub names_push : (ms ns : List (Bor (List ℕ))) (b : Bor (List ℕ)) → ms ≡ ns ++ b ∷ [] → names ms ≡ names ns ++ b.now ∷ []
 names_push ms ns b e = ap names e ∙ map_push (λ n. n.now) ns b
@@ -57,65 +59,14 @@ pub names_all : {A : Type 0} (f : A → List ℕ) (before : List (List ℕ)) (xs
     → names ns ≡ before ++ map f xs
 names_all f before xs i ns so_far e = so_far ∙ ap (λ z. before ++ map f z) (take_all xs i e)
 
--- the types of fields
 abbrev pub own_types : List Field → List (List ℕ)
 own_types fs = map (λ f. f.of) fs
 
--- and their names
-abbrev pub own_names : List Field → List (List ℕ)
-own_names fs = map (λ f. f.name) fs
-
 -- the fields of one more class of a chain, from its end on
-pub chain_more : (f : Field → List ℕ) (ks : List (Bor Class)) (left less : ℕ) (k : Bor Class) (ms ns : List (List ℕ)) → ns ≡ map f (fields_of (seen (drop left ks))) → left ≡ suc less → less < length ks
-    → k ≡ slice_index_or ks less k → ms ≡ ns ++ map f k.now.fields → ms ≡ map f (fields_of (seen (drop less ks)))
-chain_more f ks left less k ms ns so_far e lt at more =
+pub chain_more : (ks : List (Bor Class)) (left less : ℕ) (k : Bor Class) (ms ns : List (List ℕ)) → ns ≡ own_types (fields_of (seen (drop left ks))) → left ≡ suc less → less < length ks
+    → k ≡ slice_index_or ks less k → ms ≡ ns ++ own_types k.now.fields → ms ≡ own_types (fields_of (seen (drop less ks)))
+chain_more ks left less k ms ns so_far e lt at more =
     more
-    ∙ ap (λ z. z ++ map f k.now.fields) (so_far ∙ ap (λ n. map f (fields_of (seen (drop n ks)))) (e ∙ sym (add-one less)))
-    ∙ sym (map-append f (fields_of (seen (drop (less + 1) ks))) k.now.fields)
-    ∙ ap (λ z. map f (fields_of (seen z))) (sym (drop_at ks less k lt at))
-
--- ---- misfits
-
--- the first of those from a place on
-abbrev pub from_place : ℕ → Option ℕ → Option ℕ
-from_place i o = option_map (λ j. i + j) o
-
-abbrev pub IsScanned : Table → List (Bor (List ℕ)) → List (Bor (List ℕ)) → ℕ → Type 0
-IsScanned p ts ws i = first_true (misfits p (names ts) (names ws)) ≡ from_place i (first_true (misfits p (names (drop i ts)) (names (drop i ws))))
-
-from_zero : (o : Option ℕ) → o ≡ from_place 0 o
-from_zero None = refl
-from_zero (Some j) = let e : j ≡ 0 + j = omega arith in ap Some e
-
-pub scan_begins : (p : Table) (ts ws : List (Bor (List ℕ))) → IsScanned p ts ws 0
-scan_begins p ts ws = from_zero (first_true (misfits p (names ts) (names ws)))
-
-scan_here : (p : Table) (ts ws : List (Bor (List ℕ))) (i : ℕ) (t w : Bor (List ℕ)) → i < length ts → i < length ws → t ≡ slice_index_or ts i t → w ≡ slice_index_or ws i w
-    → misfits p (names (drop i ts)) (names (drop i ws)) ≡ not (is_subtype p t.now w.now) ∷ misfits p (names (drop (i + 1) ts)) (names (drop (i + 1) ws))
-scan_here p ts ws i t w lt lw at aw = ap₂ (λ a b. misfits p (names a) (names b)) (drop_at ts i t lt at) (drop_at ws i w lw aw)
-
-pub scan_found : (p : Table) (ts ws : List (Bor (List ℕ))) (i : ℕ) (t w : Bor (List ℕ)) → IsScanned p ts ws i → length ts ≡ length ws → i < length ts → t ≡ slice_index_or ts i t → w ≡ slice_index_or ws i w
-    → is_subtype p t.now w.now ≡ false → Some i ≡ first_true (misfits p (names ts) (names ws))
-scan_found p ts ws i t w scanned same lt at aw misfit =
-    let place : i ≡ i + 0 = omega arith in
-    let lw : i < length ws = omega (arith, same, lt) in
-    ap Some place
-    ∙ ap (λ b. from_place i (first_true (not b ∷ misfits p (names (drop (i + 1) ts)) (names (drop (i + 1) ws))))) (sym misfit)
-    ∙ ap (λ z. from_place i (first_true z)) (sym (scan_here p ts ws i t w lt lw at aw))
-    ∙ sym scanned
-
-from_next : (i : ℕ) (o : Option ℕ) → from_place i (option_map (λ j. suc j) o) ≡ from_place (i + 1) o
-from_next i None = refl
-from_next i (Some j) = let e : i + suc j ≡ i + 1 + j = omega arith in ap Some e
-
-pub scan_on : (p : Table) (ts ws : List (Bor (List ℕ))) (i : ℕ) (t w : Bor (List ℕ)) → IsScanned p ts ws i → length ts ≡ length ws → i < length ts → t ≡ slice_index_or ts i t → w ≡ slice_index_or ws i w
-    → is_subtype p t.now w.now ≡ true → IsScanned p ts ws (i + 1)
-scan_on p ts ws i t w scanned same lt at aw fits =
-    let lw : i < length ws = omega (arith, same, lt) in
-    scanned
-    ∙ ap (λ z. from_place i (first_true z)) (scan_here p ts ws i t w lt lw at aw)
-    ∙ ap (λ b. from_place i (first_true (not b ∷ misfits p (names (drop (i + 1) ts)) (names (drop (i + 1) ws))))) fits
-    ∙ from_next i (first_true (misfits p (names (drop (i + 1) ts)) (names (drop (i + 1) ws))))
-
-pub scan_none : (p : Table) (ts ws : List (Bor (List ℕ))) (i : ℕ) → IsScanned p ts ws i → length ts ≤ i → None ≡ first_true (misfits p (names ts) (names ws))
-scan_none p ts ws i scanned le = ap (λ z. from_place i (first_true (misfits p (names z) (names (drop i ws))))) (sym (drop_past ts i le)) ∙ sym scanned
+    ∙ ap (λ z. z ++ own_types k.now.fields) (so_far ∙ ap (λ n. own_types (fields_of (seen (drop n ks)))) (e ∙ sym (add-one less)))
+    ∙ sym (map_append (λ (f : Field). f.of) (fields_of (seen (drop (less + 1) ks))) k.now.fields)
+    ∙ ap (λ z. own_types (fields_of (seen z))) (sym (drop_at ks less k lt at))

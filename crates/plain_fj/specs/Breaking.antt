@@ -1,65 +1,40 @@
--- The first pair of a site and a rule that breaks, as code finds it declaration by declaration.
-use Rattle.std.specs.Prelude.{◌≡◌, ℕ, not, List, [], ◌∷◌, flat_map, find, map, Option, Some, None, option_map}
-use Rattle.cfj_model.specs.Judging.{Judged, Pair, Verdict, are_same, extends_itself, is_no_result, is_overridden_wrongly, judged_at, pair_of, takes_fields}
-use Rattle.cfj_model.specs.LookUps.{Table, all_fields, ancestors, first_some, is_known, method_called}
+-- The pairs of a site and a rule that break, as code finds them part by part.
+use Rattle.std.specs.Prelude.{◌≡◌, ℕ, not, List, [], ◌∷◌, ◌++◌, filter, flat_map, map}
+use Rattle.cfj_model.specs.Judging.{Judged, Pair, Verdict, judged, judged_at, pair_of}
+use Rattle.cfj_model.specs.LookUps.{Table, is_known}
 use Rattle.cfj_model.specs.Sites.{site_ref_seen}
 use Rattle.cfj_model.specs.declared.class.Class.{Class}
 use Rattle.cfj_model.specs.declared.class.Method.{Method}
 use Rattle.cfj_model.specs.declared.class.Param.{Param}
-use Rattle.cfj_model.specs.declared.site.Rule.{Rule}
-use Rattle.cfj_model.specs.declared.site.Rule.TheVariants.{K1, K2, K4, K5, K6, K7, K8}
+use Rattle.cfj_model.specs.declared.site.Rule.TheVariants.{K1}
+use Rattle.cfj_model.specs.declared.site.Site.{Site}
 use Rattle.cfj_model.specs.declared.site.Site.TheVariants as site
-use Rattle.plain_fj.specs.declared.outcome.Outcome.{Outcome}
-use Rattle.plain_fj.specs.declared.outcome.Outcome.TheVariants as outcome
 use Rattle.plain_fj.specs.declared.site_break.Break.{Break}
 
--- the first of these that breaks
-abbrev pub first_judged : List Judged → Option Pair
-first_judged js = option_map pair_of (find (λ j. j.breaks) js)
+-- the pairs of those of these that break
+abbrev pub broken : List Judged → List Pair
+broken js = map pair_of (filter (λ j. j.breaks) js)
 
--- the first of a site's rules that breaks
-abbrev pub first_rule : List Verdict → Option Rule
-first_rule vs = option_map (λ v. v.0) (find (λ v. v.1) vs)
+-- each pair of a project that breaks, in the order of the text, and at one site in the order of the rules
+abbrev pub breaking : Table → List Pair
+breaking p = broken (judged p)
 
 -- the pair that a break is
 abbrev pub told : Break → Pair
 told b = (site_ref_seen b.site, b.rule)
 
--- what is found is the first of these that breaks
-abbrev pub IsFirst : List Judged → Option Break → Type 0
-IsFirst js found = option_map told found ≡ first_judged js
+-- the breaks are those before, and behind them each of these that breaks
+abbrev pub Adds : List Break → List Break → List Judged → Type 0
+Adds before after js = map told after ≡ map told before ++ broken js
 
--- the rules of a class's own site
-abbrev pub class_verdicts : Table → Class → List Verdict
-class_verdicts p k = (K1, not (is_known p k.parent)) ∷ ((K2, extends_itself p k) ∷ [])
+-- what is judged at nodes, by the site of a slot
+abbrev pub at_slots : (ℕ → Site) → List (ℕ × List Verdict) → List Judged
+at_slots at ns = flat_map (λ n. judged_at (at n.0) n.1) ns
 
--- the rules of a constructor's own site
-abbrev pub ctor_verdicts : Table → Class → List Verdict
-ctor_verdicts p k =
-    (K4, not (takes_fields k.ctor.params (all_fields p k.name)))
-    ∷ ((K5, not (are_same (map (λ s. s.name) k.ctor.sends) (map (λ f. f.name) (all_fields p k.parent))))
-    ∷ ((K6, not (are_same (map (λ a. a.name) k.ctor.assigns) (map (λ f. f.name) k.fields))) ∷ []))
+-- what is judged at a parameter of a constructor
+abbrev pub judged_ctor_param : Table → Class → Param → List Judged
+judged_ctor_param p k q = judged_at (site.CtorParam k.name q.slot) ((K1, not (is_known p q.of)) ∷ [])
 
--- the rules of the parameters of a constructor
-abbrev pub judged_ctor_params : Table → Class → List Judged
-judged_ctor_params p k = flat_map (λ (c : Param). judged_at (site.CtorParam k.name c.slot) ((K1, not (is_known p c.of)) ∷ [])) k.ctor.params
-
--- the rules of a method's own site, where its body has this type
-abbrev pub method_verdicts : Table → Class → Method → Option (List ℕ) → List Verdict
-method_verdicts p k m type =
-    (K1, not (is_known p m.result))
-    ∷ ((K7, is_overridden_wrongly m (first_some (method_called m.name) (ancestors p k.name))) ∷ ((K8, is_no_result p m type) ∷ []))
-
--- the rules of the parameters of a method
-abbrev pub judged_params : Table → Class → Method → List Judged
-judged_params p k m = flat_map (λ (q : Param). judged_at (site.Param k.name m.name m.alt q.slot) ((K1, not (is_known p q.of)) ∷ [])) m.params
-
--- the type that was found of a body
-abbrev pub found_type : Outcome → Option (List ℕ)
-found_type (outcome.Typed t) = Some t.now
-found_type (outcome.Breaks slot rule) = None
-
--- the pair that was found to break in the body of a method
-abbrev pub found_break : Class → Method → Outcome → Option Pair
-found_break k m (outcome.Typed t) = None
-found_break k m (outcome.Breaks slot rule) = Some (site.Node k.name m.name m.alt slot, rule)
+-- what is judged at a parameter of a method
+abbrev pub judged_param : Table → Class → Method → Param → List Judged
+judged_param p k m q = judged_at (site.Param k.name m.name m.alt q.slot) ((K1, not (is_known p q.of)) ∷ [])

@@ -1,4 +1,3 @@
 pub mod ByName
-pub mod Finding
 pub mod Found
 pub mod Breaking

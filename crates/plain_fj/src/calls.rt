@@ -1,47 +1,55 @@
-ghost use Rattle.std.specs.Prelude.{IfOk};
-ghost use Rattle.cfj_model.specs.Judging.{judged_expr};
-ghost use Rattle.cfj_model.specs.Typing.{Environment};
+ghost use Rattle.std.specs.Prelude.{◌≡◌, IfOk, List, length};
+ghost use Rattle.std.specs.Option.{ForSome};
 ghost use Rattle.cfj_model.specs.declared.expr.Expr.{Expr};
 ghost use Rattle.cfj_model.specs.declared.expr.Expr.TheVariants as variant;
-ghost use Rattle.plain_fj.specs.Found.{AreAsMany, AreFound, IsFound, judged_all};
+ghost use Rattle.plain_fj.specs.Found.{AreJudged, IsJudged};
+ghost use Rattle.plain_fj.specs.declared.site_break.Break.{Break};
 
-use crate::class_table::ClassTable;
-use crate::nodes::slot_at;
-use crate::outcome::{Fitting, Outcome, Types};
-use crate::wanted::{fit, param_types};
+use crate::body::Body;
+use crate::misfits::add_misfits;
+use crate::site_break::Break;
+use crate::wanted::param_types;
 use cfj_model::{Arg, Name, Rule};
-use std::alloc::{AllocError, Global};
+use std::alloc::AllocError;
 
-/// What is found of a call, by what is found of its receiver and of its arguments.
+/// The type of a call, whose receiver and arguments are judged, if it has one. The call's own breaks are added.
 pub fn at_call<'a>(
-    alloc: Global,
-    table: &ClassTable<'a>,
+    body: &Body<'a, '_>,
     slot: u16,
-    receiver: Outcome<'a>,
+    receiver: Option<&'a Name>,
     method: &Name,
     args: &[Arg],
-    types: Types<'a>,
-) -> Result<Outcome<'a>, AllocError>
-    requires { AreAsMany args.now types }
-    ensures { IfOk result (λ found. (g : Environment) (on : Expr) → IsFound (judged_expr table.now g on) receiver.entry → AreFound (judged_all table.now g args.now) types.entry →
-        IsFound (judged_expr table.now g (variant.Call slot on method.now args.now)) found) }
+    types: Option<Vec<&'a Name>>,
+    breaks: &mut Vec<Break<'a>>,
+) -> Result<Option<&'a Name>, AllocError>
+    requires { ForSome types (λ ts. length ts.items ≡ length args.now) }
+    ensures { IfOk result (λ found. (on : Expr) (before middle : List Break) → IsJudged body.now on receiver.entry before middle
+        → AreJudged body.now args.now types.entry middle breaks.old.items → IsJudged body.now (variant.Call slot on method.now args.now) found before breaks.new.items) }
 {
     let class = match receiver {
-        Outcome::Typed(class) => class,
-        Outcome::Breaks(at, rule) => return Ok(Outcome::Breaks(at, rule)),
+        Some(class) => class,
+        None => return Ok(None),
     };
     let types = match types {
-        Types::Typed(types) => types,
-        Types::Breaks(at, rule) => return Ok(Outcome::Breaks(at, rule)),
+        Some(types) => types,
+        None => return Ok(None),
     };
-    let called = match table.method_of(class, method) {
+    let called = match body.table.method_of(class, method) {
         Some(called) => called,
-        None => return Ok(Outcome::Breaks(slot, Rule::E3)),
+        None => {
+            body.add(breaks, slot, Rule::E3)?;
+            return Ok(None);
+        }
     };
-    let wanted = param_types(alloc, called.params.slice())?;
-    Ok(match fit(table, types.as_slice(), wanted.as_slice()) {
-        Fitting::Fits => Outcome::Typed(&called.result),
-        Fitting::Differs => Outcome::Breaks(slot, Rule::E4),
-        Fitting::Misfits(place) => Outcome::Breaks(slot_at(args, place), Rule::E5),
-    })
+    let wanted = param_types(body.alloc, called.params.slice())?;
+    let given = types.as_slice();
+    let wanted = wanted.as_slice();
+    if given.len() != wanted.len() {
+        body.add(breaks, slot, Rule::E4)?;
+        return Ok(None);
+    }
+    if add_misfits(body, args, given, wanted, Rule::E5, breaks)? {
+        return Ok(None);
+    }
+    Ok(Some(&called.result))
 }

@@ -1,23 +1,15 @@
-ghost use Rattle.std.specs.Prelude.{◌≡◌, IfOk, find, map, not};
-ghost use Rattle.std.specs.Option.{option_copied};
+ghost use Rattle.std.specs.Prelude.{◌≡◌, IfOk, OnOk, flat_map, map};
 ghost use Rattle.cfj_model.specs.Judging as spec;
-ghost use Rattle.cfj_model.specs.LookUps.{is_known, fields_of};
-ghost use Rattle.plain_fj.specs.Breaking.{IsFirst, ctor_verdicts, first_rule, judged_ctor_params};
+ghost use Rattle.cfj_model.specs.LookUps.{fields_of};
+ghost use Rattle.plain_fj.specs.Breaking.{Adds, judged_ctor_param};
 ghost use Rattle.plain_fj.specs.ByName.{seen};
 
 use crate::class_table::ClassTable;
 use crate::same_names::{are_same, field_names, param_names, push_names, sent_names};
-use crate::site_break::Break;
+use crate::site_break::{Break, note};
 use crate::wanted::{field_types, param_types};
-use cfj_model::{Class, Name, Param, Rule, SiteRef};
+use cfj_model::{Class, Name, Rule, SiteRef};
 use std::alloc::{AllocError, Global};
-
-/// The first of these parameters whose type isn't known.
-pub fn first_unknown<'a>(table: &ClassTable<'_>, params: &'a [Param]) -> Option<&'a Param>
-    ensures { option_copied result ≡ find (λ q. not (is_known table.now q.of)) params.now }
-{
-    params.iter().find(|param| !table.is_known(&param.of))
-}
 
 /// Whether the parameters of a class's constructor are the fields of a chain, by types and by names.
 fn takes_fields(alloc: Global, class: &Class, chain: &[&Class]) -> Result<bool, AllocError>
@@ -53,53 +45,36 @@ fn assigns_fields(alloc: Global, class: &Class) -> Result<bool, AllocError>
     Ok(are_same(&names, &wanted))
 }
 
-/// The first of the constructor's own rules that breaks.
-fn ctor_rule(
-    alloc: Global,
-    table: &ClassTable<'_>,
-    class: &Class,
-) -> Result<Option<Rule>, AllocError>
-    ensures { IfOk result (λ rule. rule ≡ first_rule (ctor_verdicts table.now class.now)) }
+/// Adds the breaks at the parameters of a class's constructor.
+fn judge_ctor_params<'a>(
+    table: &ClassTable<'a>,
+    class: &'a Class,
+    breaks: &mut Vec<Break<'a>>,
+) -> Result<(), AllocError>
+    ensures { OnOk result (Adds breaks.old.items breaks.new.items (flat_map (judged_ctor_param table.now class.now) class.now.ctor.params)) }
 {
-    if !takes_fields(alloc, class, table.chain(&class.name))? {
-        return Ok(Some(Rule::K4));
+    'each: for param in class.ctor.params.slice() {
+        let site = SiteRef::CtorParam(&class.name, param.slot);
+        note(breaks, site, Rule::K1, !table.is_known(&param.of))?;
     }
-    if !sends_fields(alloc, class, table.chain(&class.parent))? {
-        return Ok(Some(Rule::K5));
-    }
-    if !assigns_fields(alloc, class)? {
-        return Ok(Some(Rule::K6));
-    }
-    Ok(None)
+    Ok(())
 }
 
-/// The first break among the parameters of a class's constructor.
-fn first_in_ctor_params<'a>(table: &ClassTable<'a>, class: &'a Class) -> Option<Break<'a>>
-    ensures { IsFirst (judged_ctor_params table.now class.now) result }
-{
-    match first_unknown(table, class.ctor.params.slice()) {
-        Some(param) => Some(Break {
-            site: SiteRef::CtorParam(&class.name, param.slot),
-            rule: Rule::K1,
-        }),
-        None => None,
-    }
-}
-
-/// The first break of a class's constructor.
-pub fn first_in_ctor<'a>(
+/// Adds the breaks at a class's constructor.
+pub fn judge_ctor<'a>(
     alloc: Global,
     table: &ClassTable<'a>,
     class: &'a Class,
-) -> Result<Option<Break<'a>>, AllocError>
-    ensures { IfOk result (λ found. IsFirst (spec.judged_ctor table.now class.now) found) }
+    breaks: &mut Vec<Break<'a>>,
+) -> Result<(), AllocError>
+    ensures { OnOk result (Adds breaks.old.items breaks.new.items (spec.judged_ctor table.now class.now)) }
 {
-    let broken = ctor_rule(alloc, table, class)?;
-    match broken {
-        Some(rule) => {
-            let site = SiteRef::Ctor(&class.name);
-            Ok(Some(Break { site, rule }))
-        }
-        None => Ok(first_in_ctor_params(table, class)),
-    }
+    let site = SiteRef::Ctor(&class.name);
+    let takes = takes_fields(alloc, class, table.chain(&class.name))?;
+    note(breaks, site, Rule::K4, !takes)?;
+    let sends = sends_fields(alloc, class, table.chain(&class.parent))?;
+    note(breaks, site, Rule::K5, !sends)?;
+    let assigns = assigns_fields(alloc, class)?;
+    note(breaks, site, Rule::K6, !assigns)?;
+    judge_ctor_params(table, class, breaks)
 }

@@ -1,53 +1,43 @@
-ghost use Rattle.std.specs.Prelude.{◌≡◌, IfOk, flat_map};
+ghost use Rattle.std.specs.Prelude.{◌≡◌, OnOk, flat_map};
 ghost use Rattle.cfj_model.specs.Judging.{judged_field};
 ghost use Rattle.cfj_model.specs.LookUps as spec;
-ghost use Rattle.plain_fj.specs.Breaking.{IsFirst};
+ghost use Rattle.plain_fj.specs.Breaking.{Adds};
 ghost use Rattle.plain_fj.specs.ByName.{seen};
 
 use crate::class_table::{ClassTable, nearest_field};
-use crate::site_break::Break;
+use crate::site_break::{Break, note};
 use cfj_model::{Class, Field, Rule, SiteRef};
+use std::alloc::AllocError;
 
-/// The first rule that breaks at a field.
-fn first_at_field<'a>(
+/// Adds the breaks at a field.
+fn judge_field<'a>(
     table: &ClassTable<'a>,
     class: &'a Class,
     ancestors: &[&'a Class],
     field: &'a Field,
-) -> Option<Break<'a>>
+    breaks: &mut Vec<Break<'a>>,
+) -> Result<(), AllocError>
     requires { seen ancestors.now ≡ spec.ancestors table.now class.now.name }
-    ensures { IsFirst (judged_field table.now class.now field.now) result }
+    ensures { OnOk result (Adds breaks.old.items breaks.new.items (judged_field table.now class.now field.now)) }
 {
     let site = SiteRef::Field(&class.name, &field.name, field.alt);
-    if !table.is_known(&field.of) {
-        return Some(Break {
-            site,
-            rule: Rule::K1,
-        });
-    }
-    if nearest_field(ancestors, &field.name).is_some() {
-        return Some(Break {
-            site,
-            rule: Rule::K3,
-        });
-    }
-    None
+    note(breaks, site, Rule::K1, !table.is_known(&field.of))?;
+    let hidden = nearest_field(ancestors, &field.name);
+    note(breaks, site, Rule::K3, hidden.is_some())
 }
 
-/// The first break among the fields that a class itself declares.
-pub fn first_in_fields<'a>(
+/// Adds the breaks at the fields that a class itself declares.
+pub fn judge_fields<'a>(
     table: &ClassTable<'a>,
     class: &'a Class,
     ancestors: &[&'a Class],
-) -> Option<Break<'a>>
+    breaks: &mut Vec<Break<'a>>,
+) -> Result<(), AllocError>
     requires { seen ancestors.now ≡ spec.ancestors table.now class.now.name }
-    ensures { IsFirst (flat_map (judged_field table.now class.now) class.now.fields) result }
+    ensures { OnOk result (Adds breaks.old.items breaks.new.items (flat_map (judged_field table.now class.now) class.now.fields)) }
 {
     'each: for field in class.fields.slice() {
-        let found = first_at_field(table, class, ancestors, field);
-        if found.is_some() {
-            return found;
-        }
+        judge_field(table, class, ancestors, field, breaks)?;
     }
-    None
+    Ok(())
 }

@@ -1,34 +1,32 @@
 ghost use Rattle.std.specs.Prelude.{IfOk};
-ghost use Rattle.cfj_model.specs.Judging.{judged_expr};
-ghost use Rattle.plain_fj.specs.Found.{AreFound, IsFound, environment, judged_all};
+ghost use Rattle.plain_fj.specs.Found.{AreJudged, IsJudged};
 
+use crate::body::Body;
 use crate::calls::at_call;
-use crate::class_table::ClassTable;
 use crate::news::at_new;
 use crate::nodes::{at_access, at_cast, at_variable};
-use crate::outcome::{Outcome, Scope, Types};
-use cfj_model::{Arg, Expr};
-use std::alloc::{AllocError, Global};
+use crate::site_break::Break;
+use cfj_model::{Arg, Expr, Name};
+use std::alloc::AllocError;
 
-/// What is found of an expression: its type, or the first of its nodes at which a rule breaks.
+/// The type of an expression, if it has one. The breaks at its nodes are added, in the order of the text.
 ///
 /// # Errors
 ///
-/// There is no memory for the types of arguments.
+/// There is no memory for the breaks, or for the types of arguments.
 #[cycle(judge)]
 pub fn judge<'a>(
-    alloc: Global,
-    table: &ClassTable<'a>,
-    scope: &Scope<'a>,
+    body: &Body<'a, '_>,
     expr: &'a Expr,
-) -> Result<Outcome<'a>, AllocError>
-    ensures { IfOk result (λ found. IsFound (judged_expr table.now (environment scope.now) expr.now) found) }
+    breaks: &mut Vec<Break<'a>>,
+) -> Result<Option<&'a Name>, AllocError>
+    ensures { IfOk result (λ found. IsJudged body.now expr.now found breaks.old.items breaks.new.items) }
 {
     match expr {
-        Expr::Var { slot, name } => Ok(at_variable(scope, *slot, name)),
+        Expr::Var { slot, name } => at_variable(body, *slot, name, breaks),
         Expr::Get { slot, on, field } => {
-            let receiver = judge(alloc, table, scope, on.get())?;
-            Ok(at_access(table, *slot, receiver, field))
+            let receiver = judge(body, on.get(), breaks)?;
+            at_access(body, *slot, receiver, field, breaks)
         }
         Expr::Call {
             slot,
@@ -36,39 +34,46 @@ pub fn judge<'a>(
             method,
             args,
         } => {
-            let receiver = judge(alloc, table, scope, on.get())?;
+            let receiver = judge(body, on.get(), breaks)?;
             let args = args.slice();
-            let types = judge_args(alloc, table, scope, args)?;
-            at_call(alloc, table, *slot, receiver, method, args, types)
+            let types = judge_args(body, args, breaks)?;
+            at_call(body, *slot, receiver, method, args, types, breaks)
         }
         Expr::New { slot, class, args } => {
+            body.add_unknown(breaks, *slot, class)?;
             let args = args.slice();
-            let types = judge_args(alloc, table, scope, args)?;
-            at_new(alloc, table, *slot, class, args, types)
+            let types = judge_args(body, args, breaks)?;
+            at_new(body, *slot, class, args, types, breaks)
         }
-        Expr::Cast { slot, class, on } => {
-            let operand = judge(alloc, table, scope, on.get())?;
-            Ok(at_cast(table, *slot, class, operand))
+        Expr::Cast {
+            slot,
+            class: target,
+            on,
+        } => {
+            body.add_unknown(breaks, *slot, target)?;
+            let operand = judge(body, on.get(), breaks)?;
+            at_cast(body, *slot, target, operand, breaks)
         }
     }
 }
 
-/// What is found of arguments, from the first on.
+/// The types of arguments, if all have one. The breaks at their nodes are added.
 #[cycle(judge)]
 fn judge_args<'a>(
-    alloc: Global,
-    table: &ClassTable<'a>,
-    scope: &Scope<'a>,
+    body: &Body<'a, '_>,
     args: &'a [Arg],
-) -> Result<Types<'a>, AllocError>
-    ensures { IfOk result (λ found. AreFound (judged_all table.now (environment scope.now) args.now) found) }
+    breaks: &mut Vec<Break<'a>>,
+) -> Result<Option<Vec<&'a Name>>, AllocError>
+    ensures { IfOk result (λ found. AreJudged body.now args.now found breaks.old.items breaks.new.items) }
 {
-    let mut types = Vec::new(alloc);
+    let mut types: Vec<&'a Name> = Vec::new(body.alloc);
     'each: for arg in args {
-        match judge(alloc, table, scope, &arg.expr)? {
-            Outcome::Typed(of) => types.push(of)?,
-            Outcome::Breaks(slot, rule) => return Ok(Types::Breaks(slot, rule)),
+        if let Some(of) = judge(body, &arg.expr, breaks)? {
+            types.push(of)?;
         }
     }
-    Ok(Types::Typed(types))
+    if types.len() != args.len() {
+        return Ok(None);
+    }
+    Ok(Some(types))
 }

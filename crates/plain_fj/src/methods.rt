@@ -1,19 +1,19 @@
-ghost use Rattle.std.specs.Prelude.{◌≡◌, ◌&&◌, IfOk, flat_map, option_map};
+ghost use Rattle.std.specs.Prelude.{◌≡◌, ◌&&◌, IfOk, OnOk, flat_map};
+ghost use Rattle.std.specs.Option.{option_copied};
 ghost use Rattle.std.specs.Str.{bytes_eq};
 ghost use Rattle.cfj_model.specs.Judging as spec;
 ghost use Rattle.cfj_model.specs.LookUps as look_up;
 ghost use Rattle.cfj_model.specs.Typing as typing;
-ghost use Rattle.plain_fj.specs.Breaking.{IsFirst, first_rule, found_break, found_type, judged_params, method_verdicts, told};
+ghost use Rattle.plain_fj.specs.Breaking.{Adds, judged_param};
 ghost use Rattle.plain_fj.specs.ByName.{seen};
 
+use crate::body::Body;
 use crate::class_table::{ClassTable, nearest_method};
-use crate::ctors::first_unknown;
 use crate::judge::judge;
-use crate::outcome::{Outcome, Scope};
 use crate::same_names::are_same;
-use crate::site_break::Break;
+use crate::site_break::{Break, note};
 use crate::wanted::param_types;
-use cfj_model::{Class, Method, Rule, SiteRef};
+use cfj_model::{Class, Method, Name, Rule, SiteRef};
 use std::alloc::{AllocError, Global};
 
 /// Whether two methods have the same parameter types and the same result.
@@ -45,110 +45,75 @@ fn overrides_wrongly(
 }
 
 /// Whether a body has a type that isn't a subtype of the method's result.
-fn misses_result(table: &ClassTable<'_>, method: &Method, body: Outcome<'_>) -> bool
-    ensures { result ≡ spec.is_no_result table.now method.now (found_type body.entry) }
+fn misses_result(table: &ClassTable<'_>, method: &Method, of: Option<&Name>) -> bool
+    ensures { result ≡ spec.is_no_result table.now method.now (option_copied of.entry) }
 {
-    match body {
-        Outcome::Typed(class) => !table.is_subtype(class, &method.result),
-        Outcome::Breaks(_, _) => false,
+    match of {
+        Some(of) => !table.is_subtype(of, &method.result),
+        None => false,
     }
 }
 
-/// The first of a method's own rules that breaks, by what is found of its body.
-fn method_rule<'a>(
+/// Adds the breaks at the parameters of a method.
+fn judge_params<'a>(
+    table: &ClassTable<'a>,
+    class: &'a Class,
+    method: &'a Method,
+    breaks: &mut Vec<Break<'a>>,
+) -> Result<(), AllocError>
+    ensures { OnOk result (Adds breaks.old.items breaks.new.items (flat_map (judged_param table.now class.now method.now) method.now.params)) }
+{
+    'each: for param in method.params.slice() {
+        let site = SiteRef::Param(&class.name, &method.name, method.alt, param.slot);
+        note(breaks, site, Rule::K1, !table.is_known(&param.of))?;
+    }
+    Ok(())
+}
+
+/// Adds the breaks at a method. Those of its body come last, but the body's type says whether the method's own rules break.
+fn judge_method<'a>(
     alloc: Global,
     table: &ClassTable<'a>,
     class: &'a Class,
     ancestors: &[&'a Class],
     method: &'a Method,
-    body: Outcome<'a>,
-) -> Result<Option<Rule>, AllocError>
+    breaks: &mut Vec<Break<'a>>,
+) -> Result<(), AllocError>
     requires { seen ancestors.now ≡ look_up.ancestors table.now class.now.name }
-    ensures { IfOk result (λ rule. rule ≡ first_rule (method_verdicts table.now class.now method.now (found_type body.entry))) }
+    ensures { OnOk result (Adds breaks.old.items breaks.new.items (spec.judged_method table.now class.now method.now)) }
 {
-    if !table.is_known(&method.result) {
-        return Ok(Some(Rule::K1));
-    }
-    if overrides_wrongly(alloc, ancestors, method)? {
-        return Ok(Some(Rule::K7));
-    }
-    if misses_result(table, method, body) {
-        return Ok(Some(Rule::K8));
-    }
-    Ok(None)
-}
-
-/// The first break among a method's parameters.
-fn first_in_params<'a>(
-    table: &ClassTable<'a>,
-    class: &'a Class,
-    method: &'a Method,
-) -> Option<Break<'a>>
-    ensures { IsFirst (judged_params table.now class.now method.now) result }
-{
-    match first_unknown(table, method.params.slice()) {
-        Some(param) => Some(Break {
-            site: SiteRef::Param(&class.name, &method.name, method.alt, param.slot),
-            rule: Rule::K1,
-        }),
-        None => None,
-    }
-}
-
-/// The break that was found in a method's body.
-fn in_body<'a>(class: &'a Class, method: &'a Method, body: Outcome<'a>) -> Option<Break<'a>>
-    ensures { option_map told result ≡ found_break class.now method.now body.entry }
-{
-    match body {
-        Outcome::Typed(_) => None,
-        Outcome::Breaks(slot, rule) => Some(Break {
-            site: SiteRef::Node(&class.name, &method.name, method.alt, slot),
-            rule,
-        }),
-    }
-}
-
-/// The first break of a method.
-fn first_in_method<'a>(
-    alloc: Global,
-    table: &ClassTable<'a>,
-    class: &'a Class,
-    ancestors: &[&'a Class],
-    method: &'a Method,
-) -> Result<Option<Break<'a>>, AllocError>
-    requires { seen ancestors.now ≡ look_up.ancestors table.now class.now.name }
-    ensures { IfOk result (λ found. IsFirst (spec.judged_method table.now class.now method.now) found) }
-{
-    let scope = Scope {
+    let body = Body {
+        alloc,
+        table,
         class: &class.name,
+        method: &method.name,
+        alt: method.alt,
         params: method.params.slice(),
     };
-    let body = judge(alloc, table, &scope, &method.body)?;
-    let broken = method_rule(alloc, table, class, ancestors, method, body)?;
-    match broken {
-        Some(rule) => {
-            let site = SiteRef::Method(&class.name, &method.name, method.alt);
-            Ok(Some(Break { site, rule }))
-        }
-        None => Ok(first_in_params(table, class, method).or(in_body(class, method, body))),
-    }
+    let mut within: Vec<Break<'a>> = Vec::new(alloc);
+    let of = judge(&body, &method.body, &mut within)?;
+    let site = SiteRef::Method(&class.name, &method.name, method.alt);
+    note(breaks, site, Rule::K1, !table.is_known(&method.result))?;
+    let wrongly = overrides_wrongly(alloc, ancestors, method)?;
+    note(breaks, site, Rule::K7, wrongly)?;
+    note(breaks, site, Rule::K8, misses_result(table, method, of))?;
+    judge_params(table, class, method, breaks)?;
+    breaks.extend_from_slice(within.as_slice())
 }
 
-/// The first break among the methods that a class itself declares.
-pub fn first_in_methods<'a>(
+/// Adds the breaks at the methods that a class itself declares.
+pub fn judge_methods<'a>(
     alloc: Global,
     table: &ClassTable<'a>,
     class: &'a Class,
     ancestors: &[&'a Class],
-) -> Result<Option<Break<'a>>, AllocError>
+    breaks: &mut Vec<Break<'a>>,
+) -> Result<(), AllocError>
     requires { seen ancestors.now ≡ look_up.ancestors table.now class.now.name }
-    ensures { IfOk result (λ found. IsFirst (flat_map (spec.judged_method table.now class.now) class.now.methods) found) }
+    ensures { OnOk result (Adds breaks.old.items breaks.new.items (flat_map (spec.judged_method table.now class.now) class.now.methods)) }
 {
     'each: for method in class.methods.slice() {
-        let found = first_in_method(alloc, table, class, ancestors, method)?;
-        if found.is_some() {
-            return Ok(found);
-        }
+        judge_method(alloc, table, class, ancestors, method, breaks)?;
     }
-    Ok(None)
+    Ok(())
 }

@@ -1,40 +1,45 @@
-ghost use Rattle.std.specs.Prelude.{IfOk};
-ghost use Rattle.cfj_model.specs.Judging.{judged_expr};
-ghost use Rattle.cfj_model.specs.Typing.{Environment};
+ghost use Rattle.std.specs.Prelude.{◌≡◌, IfOk, List, length};
+ghost use Rattle.std.specs.Option.{ForSome};
 ghost use Rattle.cfj_model.specs.declared.expr.Expr.TheVariants as variant;
-ghost use Rattle.plain_fj.specs.Found.{AreAsMany, AreFound, IsFound, judged_all};
+ghost use Rattle.plain_fj.specs.Found.{AreJudged, IsJudged, IsNameJudged};
+ghost use Rattle.plain_fj.specs.declared.site_break.Break.{Break};
 
-use crate::class_table::ClassTable;
-use crate::nodes::slot_at;
-use crate::outcome::{Fitting, Outcome, Types};
-use crate::wanted::{field_types, fit};
+use crate::body::Body;
+use crate::misfits::add_misfits;
+use crate::site_break::Break;
+use crate::wanted::field_types;
 use cfj_model::{Arg, Name, Rule};
-use std::alloc::{AllocError, Global};
+use std::alloc::AllocError;
 
-/// What is found of a `new`, by what is found of its arguments.
+/// The type of a `new`, whose class and arguments are judged, if it has one. Its other breaks are added.
 pub fn at_new<'a>(
-    alloc: Global,
-    table: &ClassTable<'a>,
+    body: &Body<'a, '_>,
     slot: u16,
     class: &'a Name,
     args: &[Arg],
-    types: Types<'a>,
-) -> Result<Outcome<'a>, AllocError>
-    requires { AreAsMany args.now types }
-    ensures { IfOk result (λ found. (g : Environment) → AreFound (judged_all table.now g args.now) types.entry →
-        IsFound (judged_expr table.now g (variant.New slot class.now args.now)) found) }
+    types: Option<Vec<&'a Name>>,
+    breaks: &mut Vec<Break<'a>>,
+) -> Result<Option<&'a Name>, AllocError>
+    requires { ForSome types (λ ts. length ts.items ≡ length args.now) }
+    ensures { IfOk result (λ found. (before middle : List Break) → IsNameJudged body.now slot class.now before middle
+        → AreJudged body.now args.now types.entry middle breaks.old.items → IsJudged body.now (variant.New slot class.now args.now) found before breaks.new.items) }
 {
-    if !table.is_known(class) {
-        return Ok(Outcome::Breaks(slot, Rule::K1));
-    }
     let types = match types {
-        Types::Typed(types) => types,
-        Types::Breaks(at, rule) => return Ok(Outcome::Breaks(at, rule)),
+        Some(types) => types,
+        None => return Ok(None),
     };
-    let wanted = field_types(alloc, table.chain(class))?;
-    Ok(match fit(table, types.as_slice(), wanted.as_slice()) {
-        Fitting::Fits => Outcome::Typed(class),
-        Fitting::Differs => Outcome::Breaks(slot, Rule::E6),
-        Fitting::Misfits(place) => Outcome::Breaks(slot_at(args, place), Rule::E7),
-    })
+    if !body.table.is_known(class) {
+        return Ok(None);
+    }
+    let wanted = field_types(body.alloc, body.table.chain(class))?;
+    let given = types.as_slice();
+    let wanted = wanted.as_slice();
+    if given.len() != wanted.len() {
+        body.add(breaks, slot, Rule::E6)?;
+        return Ok(None);
+    }
+    if add_misfits(body, args, given, wanted, Rule::E7, breaks)? {
+        return Ok(None);
+    }
+    Ok(Some(class))
 }

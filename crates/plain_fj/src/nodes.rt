@@ -1,21 +1,22 @@
-ghost use Rattle.std.specs.Prelude.{◌≡◌, ◌<◌, ◌||◌, Some, find, length, option_map, slice_get};
+ghost use Rattle.std.specs.Prelude.{◌≡◌, ◌||◌, IfOk, List, find};
 ghost use Rattle.std.specs.Option.{option_copied};
 ghost use Rattle.std.specs.Str.{bytes_eq};
-ghost use Rattle.cfj_model.specs.Judging.{judged_expr};
-ghost use Rattle.cfj_model.specs.Typing.{Environment};
-ghost use Rattle.cfj_model.specs.LookUps.{Table, is_subtype};
+ghost use Rattle.cfj_model.specs.LookUps.{is_subtype};
 ghost use Rattle.cfj_model.specs.declared.expr.Expr.{Expr};
 ghost use Rattle.cfj_model.specs.declared.expr.Expr.TheVariants as variant;
-ghost use Rattle.plain_fj.specs.Finding as finding;
-ghost use Rattle.plain_fj.specs.Found.{AreFound, IsFound, environment, judged_all};
+ghost use Rattle.plain_fj.specs.Found as found;
+ghost use Rattle.plain_fj.specs.Found.{IsJudged, IsNameJudged};
+ghost use Rattle.plain_fj.specs.declared.site_break.Break.{Break};
 
+use crate::body::Body;
 use crate::class_table::ClassTable;
-use crate::outcome::{Fitting, Outcome, Scope};
-use cfj_model::{Arg, Expr, Name, Param, Rule};
+use crate::site_break::Break;
+use cfj_model::{Expr, Name, Param, Rule};
+use std::alloc::AllocError;
 
 /// The slot of an expression's root.
 pub fn slot_of(expr: &Expr) -> u16
-    ensures { result ≡ finding.slot_of expr.now }
+    ensures { result ≡ found.slot_of expr.now }
 {
     match expr {
         Expr::Var { slot, name: _ } => *slot,
@@ -43,14 +44,6 @@ pub fn slot_of(expr: &Expr) -> u16
     }
 }
 
-/// The slot of the root of the argument at a place.
-pub fn slot_at(args: &[Arg], place: usize) -> u16
-    requires { place < length args.now }
-    ensures { option_map (λ a. finding.slot_of a.expr) (slice_get args.now place) ≡ Some result }
-{
-    slot_of(&args[place].expr)
-}
-
 fn param_called<'a>(params: &'a [Param], name: &Name) -> Option<&'a Param>
     ensures { option_copied result ≡ find (λ q. bytes_eq q.name name.now) params.now }
 {
@@ -58,34 +51,48 @@ fn param_called<'a>(params: &'a [Param], name: &Name) -> Option<&'a Param>
     params.iter().find(|param| param.name.text() == name)
 }
 
-/// What is found of a variable.
-pub fn at_variable<'a>(scope: &Scope<'a>, slot: u16, name: &Name) -> Outcome<'a>
-    ensures { (p : Table) → IsFound (judged_expr p (environment scope.now) (variant.Var slot name.now)) result }
+/// The type of a variable, if it has one. The break is added, if there is one.
+pub fn at_variable<'a>(
+    body: &Body<'a, '_>,
+    slot: u16,
+    name: &Name,
+    breaks: &mut Vec<Break<'a>>,
+) -> Result<Option<&'a Name>, AllocError>
+    ensures { IfOk result (λ found. IsJudged body.now (variant.Var slot name.now) found breaks.old.items breaks.new.items) }
 {
     if name.text() == "this" {
-        return Outcome::Typed(scope.class);
+        return Ok(Some(body.class));
     }
-    match param_called(scope.params, name) {
-        Some(param) => Outcome::Typed(&param.of),
-        None => Outcome::Breaks(slot, Rule::E1),
+    match param_called(body.params, name) {
+        Some(param) => Ok(Some(&param.of)),
+        None => {
+            body.add(breaks, slot, Rule::E1)?;
+            Ok(None)
+        }
     }
 }
 
-/// What is found of a field access, by what is found of its receiver.
+/// The type of a field access, whose receiver is judged, if it has one. The break is added, if there is one.
 pub fn at_access<'a>(
-    table: &ClassTable<'a>,
+    body: &Body<'a, '_>,
     slot: u16,
-    receiver: Outcome<'a>,
+    receiver: Option<&'a Name>,
     field: &Name,
-) -> Outcome<'a>
-    ensures { (g : Environment) (on : Expr) → IsFound (judged_expr table.now g on) receiver.entry → IsFound (judged_expr table.now g (variant.Get slot on field.now)) result }
+    breaks: &mut Vec<Break<'a>>,
+) -> Result<Option<&'a Name>, AllocError>
+    ensures { IfOk result (λ found. (on : Expr) (before : List Break) → IsJudged body.now on receiver.entry before breaks.old.items
+        → IsJudged body.now (variant.Get slot on field.now) found before breaks.new.items) }
 {
-    match receiver {
-        Outcome::Typed(class) => match table.field_of(class, field) {
-            Some(found) => Outcome::Typed(&found.of),
-            None => Outcome::Breaks(slot, Rule::E2),
-        },
-        Outcome::Breaks(at, rule) => Outcome::Breaks(at, rule),
+    let class = match receiver {
+        Some(class) => class,
+        None => return Ok(None),
+    };
+    match body.table.field_of(class, field) {
+        Some(found) => Ok(Some(&found.of)),
+        None => {
+            body.add(breaks, slot, Rule::E2)?;
+            Ok(None)
+        }
     }
 }
 
@@ -96,26 +103,27 @@ fn are_related(table: &ClassTable<'_>, one: &Name, other: &Name) -> bool
     table.is_subtype(one, other) || table.is_subtype(other, one)
 }
 
-/// What is found of a cast, by what is found of its operand.
+/// The type of a cast, whose class and operand are judged, if it has one. The break is added, if there is one.
 pub fn at_cast<'a>(
-    table: &ClassTable<'a>,
+    body: &Body<'a, '_>,
     slot: u16,
     class: &'a Name,
-    operand: Outcome<'a>,
-) -> Outcome<'a>
-    ensures { (g : Environment) (on : Expr) → IsFound (judged_expr table.now g on) operand.entry → IsFound (judged_expr table.now g (variant.Cast slot class.now on)) result }
+    operand: Option<&'a Name>,
+    breaks: &mut Vec<Break<'a>>,
+) -> Result<Option<&'a Name>, AllocError>
+    ensures { IfOk result (λ found. (on : Expr) (before middle : List Break) → IsNameJudged body.now slot class.now before middle
+        → IsJudged body.now on operand.entry middle breaks.old.items → IsJudged body.now (variant.Cast slot class.now on) found before breaks.new.items) }
 {
-    if !table.is_known(class) {
-        return Outcome::Breaks(slot, Rule::K1);
+    let from = match operand {
+        Some(from) => from,
+        None => return Ok(None),
+    };
+    if !body.table.is_known(class) {
+        return Ok(None);
     }
-    match operand {
-        Outcome::Typed(from) => {
-            if are_related(table, from, class) {
-                Outcome::Typed(class)
-            } else {
-                Outcome::Breaks(slot, Rule::E8)
-            }
-        }
-        Outcome::Breaks(at, rule) => Outcome::Breaks(at, rule),
+    if are_related(body.table, from, class) {
+        return Ok(Some(class));
     }
+    body.add(breaks, slot, Rule::E8)?;
+    Ok(None)
 }

@@ -1,37 +1,54 @@
-ghost use Rattle.std.specs.Prelude.{◌≡◌, ◌↔◌, None, IfOk};
-ghost use Rattle.cfj_model.specs.Judging.{first_breaking, judged};
+ghost use Rattle.std.specs.Prelude.{◌≡◌, ◌↔◌, None, IfOk, map};
+ghost use Rattle.cfj_model.specs.Judging.{Breaks, first_breaking};
 ghost use Rattle.cfj_model.specs.ProductLines.{IsProject};
 ghost use Rattle.cfj_model.specs.Typing.{IsWellTyped};
-ghost use Rattle.plain_fj.specs.Breaking.{IsFirst};
+ghost use Rattle.cfj_model.specs.UnitClauses.{Has};
+ghost use Rattle.cfj_model.specs.declared.site.Rule.{Rule};
+ghost use Rattle.cfj_model.specs.declared.site.Site.{Site};
+ghost use Rattle.plain_fj.specs.Breaking.{breaking, told};
 
 use crate::class_table::ClassTable;
-use crate::classes::first_in_class;
+use crate::classes::judge_class;
 use crate::site_break::Break;
 use cfj_model::{Project, Rule, Site};
 use std::alloc::{AllocError, Global};
 
-/// The first break of a project.
-fn first_in_project<'a>(
+/// The breaks of a project.
+fn judge_project<'a>(
     alloc: Global,
     table: &ClassTable<'a>,
     project: &'a Project,
-) -> Result<Option<Break<'a>>, AllocError>
+) -> Result<Vec<Break<'a>>, AllocError>
     requires { table.now ≡ project.now.classes }
-    ensures first { IfOk result (λ found. IsFirst (judged project.now.classes) found) }
+    ensures found { IfOk result (λ found. map told found.items ≡ breaking project.now.classes) }
     ensures kept { IsProject project.now }
 {
+    let mut breaks: Vec<Break<'a>> = Vec::new(alloc);
     'each: for place in 0..project.class_count() {
-        let class = project.class(place);
-        let found = first_in_class(alloc, table, class)?;
-        if found.is_some() {
-            return Ok(found);
-        }
+        judge_class(alloc, table, project.class(place), &mut breaks)?;
     }
-    Ok(None)
+    Ok(breaks)
+}
+
+/// Each site of a project at which a rule of Featherweight Java breaks, and the rule: in the order of the text, and at one site in the
+/// order of the rules (Igarashi, Pierce, Wadler, TOPLAS 23(3), 2001).
+///
+/// Colours and the feature model play no part. Fails only where there is no memory.
+pub fn every_break(alloc: Global, project: &Project) -> Result<Vec<(Site, Rule)>, AllocError>
+    ensures found { IfOk result (λ found. found.items ≡ breaking project.now.classes) }
+    ensures each { IfOk result (λ found. (s : Site) (r : Rule) → Breaks project.now.classes s r ↔ Has found.items (s, r)) }
+{
+    let table = ClassTable::of(alloc, project)?;
+    let breaks = judge_project(alloc, &table, project)?;
+    let mut pairs: Vec<(Site, Rule)> = Vec::new(alloc);
+    'each: for found in breaks.as_slice() {
+        pairs.push(found.pair(alloc)?)?;
+    }
+    Ok(pairs)
 }
 
 /// The first site of a project at which a rule of Featherweight Java breaks, and the rule: in the order of the text, and at one
-/// site in the order of the rules (Igarashi, Pierce, Wadler, TOPLAS 23(3), 2001). `None` exactly where the project is well typed.
+/// site in the order of the rules. `None` exactly where the project is well typed.
 ///
 /// Colours and the feature model play no part. Fails only where there is no memory.
 pub fn first_break(alloc: Global, project: &Project) -> Result<Option<(Site, Rule)>, AllocError>
@@ -39,8 +56,8 @@ pub fn first_break(alloc: Global, project: &Project) -> Result<Option<(Site, Rul
     ensures typed { IfOk result (λ found. IsWellTyped project.now.classes ↔ (found ≡ None)) }
 {
     let table = ClassTable::of(alloc, project)?;
-    let found = first_in_project(alloc, &table, project)?;
-    match found {
+    let breaks = judge_project(alloc, &table, project)?;
+    match breaks.as_slice().first() {
         Some(found) => {
             let pair = found.pair(alloc)?;
             Ok(Some(pair))

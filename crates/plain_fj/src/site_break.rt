@@ -1,6 +1,7 @@
-ghost use Rattle.std.specs.Prelude.{◌≡◌, IfOk};
+ghost use Rattle.std.specs.Prelude.{◌≡◌, [], ◌∷◌, IfOk, OnOk};
+ghost use Rattle.cfj_model.specs.Judging.{judged_at};
 ghost use Rattle.cfj_model.specs.Sites.{site_ref_seen};
-ghost use Rattle.plain_fj.specs.Breaking.{told};
+ghost use Rattle.plain_fj.specs.Breaking.{Adds, told};
 
 use cfj_model::{Rule, Site, SiteRef};
 use std::alloc::{AllocError, Global};
@@ -22,6 +23,21 @@ impl Break<'_> {
         let site = kept(alloc, self.site)?;
         Ok((site, self.rule))
     }
+}
+
+/// Adds a rule of a site to the breaks, where it breaks there.
+pub fn note<'a>(
+    breaks: &mut Vec<Break<'a>>,
+    site: SiteRef<'a>,
+    rule: Rule,
+    is_broken: bool,
+) -> Result<(), AllocError>
+    ensures { OnOk result (Adds breaks.old.items breaks.new.items (judged_at (site_ref_seen site.entry) ((rule, is_broken) ∷ []))) }
+{
+    if is_broken {
+        breaks.push(Break { site, rule })?;
+    }
+    Ok(())
 }
 
 /// The site that a reference names, over names in memory of its own.

@@ -1,14 +1,9 @@
-ghost use Rattle.std.specs.Prelude.{◌≡◌, IfOk, OnOk, ◌++◌, length, map};
-ghost use Rattle.std.specs.Option.{option_copied};
+ghost use Rattle.std.specs.Prelude.{◌≡◌, IfOk, OnOk, ◌++◌, map};
 ghost use Rattle.cfj_model.specs.LookUps.{fields_of};
-ghost use Rattle.cfj_model.specs.Judging.{misfits};
 ghost use Rattle.cfj_model.specs.Typing as typing;
 ghost use Rattle.plain_fj.specs.ByName.{seen};
-ghost use Rattle.plain_fj.specs.Finding.{first_true};
-ghost use Rattle.plain_fj.specs.Found.{fitting_of, names};
+ghost use Rattle.plain_fj.specs.Found.{names};
 
-use crate::class_table::ClassTable;
-use crate::outcome::Fitting;
 use cfj_model::{Class, Field, Name, Param};
 use std::alloc::{AllocError, Global};
 
@@ -44,30 +39,4 @@ pub fn field_types<'a>(alloc: Global, chain: &[&'a Class]) -> Result<Vec<&'a Nam
         push_types(&mut types, class.fields.slice())?;
     }
     Ok(types)
-}
-
-/// The place of the first type that isn't a subtype of what is wanted there.
-fn first_misfit(table: &ClassTable<'_>, types: &[&Name], wanted: &[&Name]) -> Option<usize>
-    requires { length types.now ≡ length wanted.now }
-    ensures { result ≡ first_true (misfits table.now (names types.now) (names wanted.now)) }
-{
-    'each: for place in 0..types.len() {
-        if !table.is_subtype(types[place], wanted[place]) {
-            return Some(place);
-        }
-    }
-    None
-}
-
-/// How arguments of these types fit what is wanted of them.
-pub fn fit(table: &ClassTable<'_>, types: &[&Name], wanted: &[&Name]) -> Fitting
-    ensures { result ≡ fitting_of table.now (names types.now) (names wanted.now) }
-{
-    if types.len() != wanted.len() {
-        return Fitting::Differs;
-    }
-    match first_misfit(table, types, wanted) {
-        Some(place) => Fitting::Misfits(place),
-        None => Fitting::Fits,
-    }
 }

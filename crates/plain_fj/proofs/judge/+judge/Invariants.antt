@@ -1,7 +1,10 @@
-use Rattle.std.proofs.Common.{◌≡◌, take, Some}
-use Rattle.plain_fj.specs.Found.{environment, names}
-use Rattle.plain_fj.proofs.Outcomes.{types_all}
+use Rattle.cfj_model.specs.declared.expr.Arg.{Arg}
+use Rattle.plain_fj.specs.Found.{nodes_in}
+use Rattle.plain_fj.proofs.Broken.{IsAddedUpTo}
+use Rattle.plain_fj.proofs.JudgedArgs.{AreTypesUpTo}
 use Rattle.plain_fj.proofs.judge.+judge.Given as goal
 
 abbrev pub invariant-judge_args-each : goal.invariant-judge_args-each
-invariant-judge_args-each l = types_all l.table (environment l.scope) (take l.arg-index l.args) ≡ Some (names l.types.items)
+invariant-judge_args-each l =
+    AreTypesUpTo l.body l.args l.arg-index l.types.items
+    × IsAddedUpTo (λ (a : Arg). nodes_in l.body a.expr) l.args l.arg-index l.initial.breaks.items l.breaks.items

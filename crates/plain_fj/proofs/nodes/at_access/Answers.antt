@@ -1,19 +1,16 @@
-use Rattle.std.proofs.Common.{sym}
-use Rattle.cfj_model.specs.Judging.{judged_expr}
-use Rattle.plain_fj.proofs.FirstNodes.{get_typed, get_breaks, get_stops, typed_is, breaks_is}
+use Rattle.std.proofs.Common.{refl, sym}
+use Rattle.plain_fj.proofs.JudgedNodes.{get_breaks, get_stops, get_typed}
 use Rattle.plain_fj.proofs.nodes.at_access.Goals as goal
 
-pub returns-in-Some : goal.returns-in-Some
-returns-in-Some c = λ g on h.
-    get_typed c.args.table.now g c.args.slot on c.args.field.now c.in-Typed.class.now c.in-Some.found.now
-    (typed_is (judged_expr c.args.table.now g on) c.args.receiver c.in-Typed.class h c.in-Typed.is) (sym c.in-Some.ensures)
-
 pub returns-in-None : goal.returns-in-None
-returns-in-None c = λ g on h.
-    get_breaks c.args.table.now g c.args.slot on c.args.field.now c.in-Typed.class.now
-    (typed_is (judged_expr c.args.table.now g on) c.args.receiver c.in-Typed.class h c.in-Typed.is) (sym c.in-None.ensures)
+returns-in-None c = λ on before j. get_stops c.args.body.now c.args.slot on c.args.field.now c.args.receiver before c.args.breaks.now.items c.in-None.is j
 
-pub returns-in-Breaks : goal.returns-in-Breaks
-returns-in-Breaks c = λ g on h.
-    get_stops c.args.table.now g c.args.slot on c.args.field.now (c.in-Breaks.at, c.in-Breaks.rule)
-    (breaks_is (judged_expr c.args.table.now g on) c.args.receiver c.in-Breaks.at c.in-Breaks.rule h c.in-Breaks.is)
+pub returns-in-Some-field_of : goal.returns-in-Some-field_of
+returns-in-Some-field_of c = λ on before j.
+    get_typed c.args.body.now c.args.slot on c.args.field.now c.args.receiver c.in-Some.class c.in-Some-field_of.found.now _ before c.args.breaks.now.items c.in-Some.is
+    (sym c.in-Some-field_of.ensures) refl j
+
+pub returns-in_ok-add-in-None-field_of : goal.returns-in_ok-add-in-None-field_of
+returns-in_ok-add-in-None-field_of c = λ on before j.
+    get_breaks c.args.body.now c.args.slot on c.args.field.now c.args.receiver c.in-Some.class before c.args.breaks.now.items c.add.new.breaks.items c.in-Some.is
+    (sym c.in-None-field_of.ensures) j c.in_ok-add-in-None-field_of.ensures

@@ -2,7 +2,7 @@ use Rattle.std.proofs.Common.{◌≡◌, ◌-◌, drop}
 use Rattle.cfj_model.specs.LookUps.{fields_of}
 use Rattle.plain_fj.specs.ByName.{seen}
 use Rattle.plain_fj.specs.Found.{names}
-use Rattle.plain_fj.proofs.TypeLists.{own_names}
+use Rattle.plain_fj.proofs.SameNames.{own_names}
 use Rattle.plain_fj.proofs.same_names.field_names.Given as goal
 
 abbrev pub invariant-each : goal.invariant-each

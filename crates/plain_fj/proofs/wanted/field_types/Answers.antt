@@ -1,6 +1,5 @@
 use Rattle.std.proofs.Common.{◌≡◌, ◌-◌, ◌+◌, ◌<◌, ◌≤◌, ◌++◌, suc, length, drop, slice_index_or, arith, sym, ◌∙◌, ap}
 use Rattle.cfj_model.specs.LookUps.{fields_of}
-use Rattle.cfj_model.specs.declared.class.Field.{Field}
 use Rattle.plain_fj.specs.ByName.{seen}
 use Rattle.plain_fj.specs.Found.{names}
 use Rattle.plain_fj.proofs.TypeLists.{own_types, chain_more, drop_past}
@@ -17,7 +16,7 @@ each-preserved c =
     let less : n - c.each.step ≡ suc (n - (c.each.step + 1)) = omega (arith, c.each-test.true) in
     let within : n - (c.each.step + 1) < n = omega (arith, c.each-test.true) in
     let place : n - 1 - c.each.step ≡ n - (c.each.step + 1) = omega arith in
-    chain_more (λ (f : Field). f.of) c.args.chain.now (n - c.each.step) (n - (c.each.step + 1)) c.index-chain-count.result (names c.push_types.new.types.items) (names c.each.types.items) c.each.invariant less within
+    chain_more c.args.chain.now (n - c.each.step) (n - (c.each.step + 1)) c.index-chain-count.result (names c.push_types.new.types.items) (names c.each.types.items) c.each.invariant less within
     (c.index-chain-count.is ∙ ap (λ i. slice_index_or c.args.chain.now i c.index-chain-count.result) place)
     (c.in_ok-push_types.ensures ∙ ap (λ fs. names c.each.types.items ++ own_types fs) c.slice.ensures)
 

@@ -1,0 +1,211 @@
+-- The pairs that break, part by part: lists that grow by what breaks.
+use Rattle.std.proofs.Common.{◌≡◌, ℕ, zero, suc, ◌+◌, ◌<◌, ◌≤◌, Bool, true, false, not, ◌||◌, cond, List, [], ◌∷◌, ◌++◌, length, map, drop, take, slice_get, slice_index_or, Option, None, Some, is_some, option_map, Bor, refl, sym, ◌∙◌, ap, ap₂, subst, add-one}
+use Rattle.std.specs.Prelude.{◌↔◌, if◌then◌else◌, is_ok, Result, Ok, Err, OnOk}
+use Rattle.std.specs.List.{list_any, find, filter, flat_map}
+use Rattle.std.specs.Option.{option_copied}
+use Rattle.std.proofs.lemmas.Grind.{flat_map-append}
+use Rattle.std.proofs.lemmas.List.{append_assoc, append-nil, map-append}
+use Rattle.std.proofs.lemmas.List.Elements.{filter-append}
+use Rattle.cfj_model.specs.LookUps.{Table, ancestors, field_called, first_some}
+use Rattle.cfj_model.specs.Judging.{Breaks, Judged, JudgedExpr, Pair, Verdict, environment_of, first_breaking, judged, judged_at, judged_class, judged_expr, pair_of}
+use Rattle.cfj_model.specs.ProductLines.{ProductLine, IsProject}
+use Rattle.cfj_model.specs.Typing.{IsWellTyped}
+use Rattle.cfj_model.specs.UnitClauses.{Has}
+use Rattle.cfj_model.specs.declared.class.Class.{Class}
+use Rattle.cfj_model.specs.declared.class.Field.{Field}
+use Rattle.cfj_model.specs.declared.class.Method.{Method}
+use Rattle.cfj_model.specs.declared.class.Param.{Param}
+use Rattle.cfj_model.specs.declared.site.Rule.{Rule}
+use Rattle.cfj_model.specs.declared.site.Site.{Site}
+use Rattle.cfj_model.specs.declared.site.Site.TheVariants as site
+use Rattle.plain_fj.specs.Breaking.{Adds, at_slots, breaking, broken, told}
+use Rattle.plain_fj.specs.ByName.{seen}
+use Rattle.plain_fj.specs.declared.site_break.Break.{Break}
+use Rattle.plain_fj.proofs.Members.{unlike, not_true, has_none, has_cases, has_rest, has_map, has_filter, filter_has}
+use Rattle.plain_fj.proofs.TypeLists.{drop_at, drop_past, take_more}
+use Rattle.plain_fj.proofs.Law.{well_typed_project}
+
+-- ---- lists of what is judged
+
+pub broken_append : (js ks : List Judged) → broken (js ++ ks) ≡ broken js ++ broken ks
+broken_append js ks =
+    ap (map pair_of) (filter-append (λ (j : Judged). j.breaks) js ks) ∙ map-append pair_of (filter (λ (j : Judged). j.breaks) js) (filter (λ (j : Judged). j.breaks) ks)
+
+-- what is added first, and then
+pub adds_then : (a b c : List Break) (js ks : List Judged) → Adds a b js → Adds b c ks → Adds a c (js ++ ks)
+adds_then a b c js ks first next =
+    next ∙ ap (λ z. z ++ broken ks) first ∙ append_assoc (map told a) (broken js) (broken ks) ∙ ap (λ z. map told a ++ z) (sym (broken_append js ks))
+
+pub adds_none : (a : List Break) → Adds a a []
+adds_none a = sym (append-nil (map told a))
+
+pub adds_as : (a b : List Break) (js ks : List Judged) → broken js ≡ broken ks → Adds a b js → Adds a b ks
+adds_as a b js ks same adds = adds ∙ ap (λ z. map told a ++ z) same
+
+-- one break, where the rule breaks
+pub adds_one : (a b : List Break) (x : Break) (js : List Judged) → b ≡ a ++ x ∷ [] → broken js ≡ told x ∷ [] → Adds a b js
+adds_one a b x js pushed is = ap (map told) pushed ∙ map-append told a (x ∷ []) ∙ ap (λ z. map told a ++ z) (sym is)
+
+-- what is added where there is memory for it
+pub then_added : {X E : Type 0} (a b c : List Break) (js ks : List Judged) (r : Result X E) → Adds a b js → OnOk r (Adds b c ks) → OnOk r (Adds a c (js ++ ks))
+then_added a b c js ks (Ok x) first next = adds_then a b c js ks first next
+then_added a b c js ks (Err e) first next = tt
+
+-- a rule at a site, by whether it breaks there
+pub noted : (s : Site) (r : Rule) (c d : Bool) (a b : List Break) → c ≡ d → Adds a b (judged_at s ((r, c) ∷ [])) → Adds a b (judged_at s ((r, d) ∷ []))
+noted s r c d a b same adds = subst (λ z. Adds a b (judged_at s ((r, z) ∷ []))) same adds
+
+pub noted_where : {X E : Type 0} (s : Site) (r : Rule) (c d : Bool) (a b : List Break) (o : Result X E) → c ≡ d → OnOk o (Adds a b (judged_at s ((r, c) ∷ []))) → OnOk o (Adds a b (judged_at s ((r, d) ∷ [])))
+noted_where s r c d a b o same adds = subst (λ z. OnOk o (Adds a b (judged_at s ((r, z) ∷ [])))) same adds
+
+-- three rules at a site
+pub three_noted : (s : Site) (u v w : Verdict) (a b c d : List Break) → Adds a b (judged_at s (u ∷ [])) → Adds b c (judged_at s (v ∷ [])) → Adds c d (judged_at s (w ∷ [])) → Adds a d (judged_at s (u ∷ (v ∷ (w ∷ []))))
+three_noted s u v w a b c d first second third =
+    adds_then a b d (judged_at s (u ∷ [])) (judged_at s (v ∷ (w ∷ []))) first (adds_then b c d (judged_at s (v ∷ [])) (judged_at s (w ∷ [])) second third)
+
+-- a list of breaks
+adds_all : (a b xs : List Break) (js : List Judged) → b ≡ a ++ xs → Adds [] xs js → Adds a b js
+adds_all a b xs js appended is = ap (map told) appended ∙ map-append told a xs ∙ ap (λ z. map told a ++ z) is
+
+-- a list of breaks behind others
+pub adds_behind : {X E : Type 0} (a b c xs : List Break) (js ks : List Judged) (r : Result X E) → c ≡ (if is_ok r then b ++ xs else b) → Adds a b js → Adds [] xs ks → OnOk r (Adds a c (js ++ ks))
+adds_behind a b c xs js ks (Ok x) appended first next = adds_then a b c js ks first (adds_all b c xs ks appended next)
+adds_behind a b c xs js ks (Err e) appended first next = tt
+
+-- ---- one after another
+
+pub drop_get : {A : Type 0} (xs : List A) (i : ℕ) (x : A) → slice_get xs i ≡ Some x → drop i xs ≡ x ∷ drop (i + 1) xs
+drop_get {A = A} xs i x at = go xs i at ∙ ap (λ n. x ∷ drop n xs) (sym (add-one i))
+  where
+    go : (xs : List A) (i : ℕ) → slice_get xs i ≡ Some x → drop i xs ≡ x ∷ drop (suc i) xs
+    go [] i at = absurd (unlike at)
+    go (y ∷ ys) zero at = let same : y ≡ x = cc at in ap (λ z. z ∷ ys) same
+    go (y ∷ ys) (suc i) at = go ys i at
+
+-- the item at a place of items that are read, and those behind it
+pub drop_item : {A : Type 0} (xs ys : List A) (i : ℕ) (x : A) → ys ≡ xs → i < length ys → x ≡ slice_index_or ys i x → drop i xs ≡ x ∷ drop (i + 1) xs
+drop_item xs ys i x read lt at = ap (drop i) (sym read) ∙ drop_at ys i x lt at ∙ ap (λ zs. x ∷ drop (i + 1) zs) read
+
+module _ {A : Type 0} (of : A → List Judged) (xs : List A) (i : ℕ) (a b : List Break) where
+  -- with what is judged of the items from the place on, all is added
+  abbrev pub IsAddedUpTo : Type 0
+  IsAddedUpTo = map told b ++ broken (flat_map of (drop i xs)) ≡ map told a ++ broken (flat_map of xs)
+
+  pub added_more : (x : A) (c : List Break) → IsAddedUpTo → drop i xs ≡ x ∷ drop (i + 1) xs → Adds b c (of x)
+      → map told c ++ broken (flat_map of (drop (i + 1) xs)) ≡ map told a ++ broken (flat_map of xs)
+  added_more x c so_far at adds =
+      ap (λ z. z ++ broken rest) adds ∙ append_assoc (map told b) (broken (of x)) (broken rest) ∙ ap (λ z. map told b ++ z) (sym (broken_append (of x) rest))
+      ∙ ap (λ z. map told b ++ broken (flat_map of z)) (sym at) ∙ so_far
+    where
+      rest : List Judged
+      rest = flat_map of (drop (i + 1) xs)
+
+  pub added_all : IsAddedUpTo → length xs ≤ i → Adds a b (flat_map of xs)
+  added_all so_far le = sym (append-nil (map told b)) ∙ ap (λ z. map told b ++ broken (flat_map of z)) (sym (drop_past xs i le)) ∙ so_far
+
+  pub added_all_read : IsAddedUpTo → (ys : List A) → ys ≡ xs → length ys ≤ i → Adds a b (flat_map of xs)
+  added_all_read so_far ys read le = added_all so_far (subst (λ z. length z ≤ i) read le)
+
+-- ---- fields
+
+fields_above : (f : List ℕ) (ks : List Class) → is_some (first_some (field_called f) ks) ≡ list_any (λ a. is_some (field_called f a)) ks
+fields_above f [] = refl
+fields_above f (k ∷ ks) = go (field_called f k) (fields_above f ks)
+  where
+    go : (o : Option Field) → is_some (first_some (field_called f) ks) ≡ list_any (λ a. is_some (field_called f a)) ks
+        → is_some (cond (is_some o) o (first_some (field_called f) ks)) ≡ (is_some o || list_any (λ a. is_some (field_called f a)) ks)
+    go None ih = ih
+    go (Some x) ih = refl
+
+-- an ancestor declares a field of this name exactly where the nearest such field is found
+pub field_hidden : (p : Table) (c f : List ℕ) (ks : List (Bor Class)) (o : Option (Bor Field)) → seen ks ≡ ancestors p c → option_copied o ≡ first_some (field_called f) (seen ks)
+    → is_some o ≡ list_any (λ a. is_some (field_called f a)) (ancestors p c)
+field_hidden p c f ks o above found =
+    copied o ∙ ap is_some found ∙ fields_above f (seen ks) ∙ ap (list_any (λ a. is_some (field_called f a))) above
+  where
+    copied : (o : Option (Bor Field)) → is_some o ≡ is_some (option_copied o)
+    copied None = refl
+    copied (Some x) = refl
+
+-- ---- bodies
+
+module _ (p : Table) (k : Class) (m : Method) (ps : List Param) (named : ps ≡ m.params) where
+  -- the body as it is judged over parameters that are read
+  abbrev body : List Param → JudgedExpr
+  body qs = judged_expr p (record { class = k.name; params = qs }) m.body
+
+  abbrev at : ℕ → Site
+  at n = site.Node k.name m.name m.alt n
+
+  pub body_type : (o : Option (List ℕ)) → o ≡ (body ps).type → o ≡ (judged_expr p (environment_of k m) m.body).type
+  body_type o typed = typed ∙ ap (λ qs. (body qs).type) named
+
+  pub body_adds : (a b : List Break) → Adds a b (at_slots at ((body ps).rules [])) → Adds a b (at_slots at ((judged_expr p (environment_of k m) m.body).rules []))
+  body_adds a b adds = subst (λ qs. Adds a b (at_slots at ((body qs).rules []))) named adds
+
+-- ---- projects
+
+pub class_of_table : (p q : Table) (k : Class) (a b : List Break) → q ≡ p → Adds a b (judged_class q k) → Adds a b (judged_class p k)
+class_of_table p q k a b same adds = subst (λ z. Adds a b (judged_class z k)) same adds
+
+pub all_judged : (p : Table) → broken (flat_map (judged_class p) p) ≡ breaking p
+unfolding judged
+all_judged p = refl
+
+-- a rule breaks at a site exactly where the pair is among those that break
+pub has_broken : (p : Table) (found : List Pair) → found ≡ breaking p → (s : Site) (r : Rule) → Breaks p s r ↔ Has found (s, r)
+has_broken p found is s r = (
+  λ h. subst (λ z. Has z (s, r)) (sym is) (has_map pair_of (filter (λ (j : Judged). j.breaks) (judged p)) (record { site = s; rule = r; breaks = true }) (has_filter (λ (j : Judged). j.breaks) (judged p) (record { site = s; rule = r; breaks = true }) h refl)),
+  λ h. back (unmapped (filter (λ (j : Judged). j.breaks) (judged p)) (subst (λ z. Has z (s, r)) is h)),
+)
+  where
+    IsPair : List Judged → Type 0
+    IsPair js = (j : Judged) × Has js j × (pair_of j ≡ (s, r))
+
+    unmapped : (js : List Judged) → Has (map pair_of js) (s, r) → IsPair js
+    unmapped [] h = absurd (has_none (s, r) h)
+    unmapped (j ∷ js) (zero, e) = (j, (0, refl), cc e)
+    unmapped (j ∷ js) (suc k, e) = let rest = unmapped js (k, e) in (rest.0, has_rest j js rest.0 rest.1, rest.2)
+
+    back : IsPair (filter (λ (j : Judged). j.breaks) (judged p)) → Breaks p s r
+    back (j, h, e) =
+        let kept = filter_has (λ (j : Judged). j.breaks) (judged p) j h in
+        subst (Has (judged p)) (same j kept.1 e) kept.0
+      where
+        same : (j : Judged) → j.breaks ≡ true → pair_of j ≡ (s, r) → j ≡ record { site = s; rule = r; breaks = true }
+        same j b e =
+            ap₂ (λ (q : Pair) (b : Bool). let w : Judged = record { site = q.0; rule = q.1; breaks = b } in w) e b
+
+-- one more pair
+pub told_more : (xs : List Break) (i : ℕ) (x : Break) (ps qs : List Pair) (q : Pair) → ps ≡ map told (take i xs) → i < length xs → x ≡ slice_index_or xs i x → q ≡ told x → qs ≡ ps ++ q ∷ []
+    → qs ≡ map told (take (i + 1) xs)
+told_more xs i x ps qs q so_far lt at is pushed =
+    pushed ∙ ap₂ (λ z w. z ++ w ∷ []) so_far is ∙ sym (map-append told (take i xs) (x ∷ [])) ∙ ap (map told) (sym (take_more xs i x lt at))
+
+first_kept : (js : List Judged) → slice_get (broken js) 0 ≡ option_map pair_of (find (λ (j : Judged). j.breaks) js)
+first_kept [] = refl
+first_kept (j ∷ js) = go j.breaks (first_kept js)
+  where
+    go : (b : Bool) → slice_get (broken js) 0 ≡ option_map pair_of (find (λ (j : Judged). j.breaks) js)
+        → slice_get (map pair_of (cond b (j ∷ filter (λ (j : Judged). j.breaks) js) (filter (λ (j : Judged). j.breaks) js))) 0
+        ≡ option_map pair_of (cond b (Some j) (find (λ (j : Judged). j.breaks) js))
+    go true ih = refl
+    go false ih = ih
+
+map_get : (xs : List Break) (i : ℕ) → slice_get (map told xs) i ≡ option_map told (slice_get xs i)
+map_get [] i = refl
+map_get (x ∷ xs) zero = refl
+map_get (x ∷ xs) (suc i) = map_get xs i
+
+-- the first of the breaks is the first pair that breaks
+pub first_is : (p : Table) (xs ys : List Break) (o : Option (Bor Break)) → map told xs ≡ breaking p → ys ≡ xs → option_copied o ≡ slice_get ys 0 → option_map (λ x. told x.now) o ≡ first_breaking p
+first_is p xs ys o all read is =
+    copied o ∙ ap (option_map told) (is ∙ ap (λ z. slice_get z 0) read) ∙ sym (map_get xs 0) ∙ ap (λ z. slice_get z 0) all ∙ first_kept (judged p)
+  where
+    copied : (o : Option (Bor Break)) → option_map (λ x. told x.now) o ≡ option_map told (option_copied o)
+    copied None = refl
+    copied (Some x) = refl
+
+-- what is found first is nothing exactly where the project is well typed
+pub typed_where_none : (q : ProductLine) → IsProject q → (o : Option Pair) → o ≡ first_breaking q.classes → IsWellTyped q.classes ↔ (o ≡ None)
+typed_where_none q project o first = subst (λ z. IsWellTyped q.classes ↔ (z ≡ None)) (sym first) (well_typed_project q project)

@@ -1,4 +1,4 @@
-ghost use Rattle.std.specs.Prelude.{◌≡◌, ℕ, ◌≤◌, false, IfOk, IfSome, IfNone, IsTrue, length};
+ghost use Rattle.std.specs.Prelude.{◌≡◌, ℕ, ◌≤◌, true, false, IfOk, IfSome, IfNone, IsTrue, length};
 ghost use Rattle.std.specs.List.{list_all, list_any};
 ghost use Rattle.std.specs.Str.{chars, bytes_eq};
 ghost use Rattle.cfj_model.specs.Names as spec;
@@ -133,6 +133,15 @@ impl Name {
         }
         let text = String::from_str(alloc, text)?;
         Ok(Some(Name { text }))
+    }
+
+    /// The name with this text, which is known to be one and isn't looked at again.
+    pub fn known(alloc: Global, text: &str) -> Result<Name, AllocError>
+        requires { spec.is_name text.now ≡ true }
+        ensures { IfOk result (λ name. name ≡ text.now) }
+    {
+        let text = String::from_str(alloc, text)?;
+        Ok(Name { text })
     }
 
     /// Its text.

@@ -9,8 +9,5 @@ pub fn name_of(alloc: Global, text: &str) -> Result<Name, AllocError>
     requires { is_name text.now ≡ true }
     ensures { IfOk result (λ name. name ≡ text.now) }
 {
-    match Name::of(alloc, text)? {
-        Some(name) => Ok(name),
-        None => unreachable!(),
-    }
+    Name::known(alloc, text)
 }

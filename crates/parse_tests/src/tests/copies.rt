@@ -49,6 +49,16 @@ fn copies_are_made(rt: HostRuntime) -> Result<(), Fail> {
     Ok(())
 }
 
+/// Whether a member is the second method `m` of `A`.
+fn is_second_method(member: &MemberName) -> bool {
+    match member {
+        MemberName::Method(class, method, alt) => {
+            class.text() == "A" && method.text() == "m" && *alt == 1
+        }
+        MemberName::Field(..) => false,
+    }
+}
+
 #[test]
 fn sites_and_members_are_copied(rt: HostRuntime) -> Result<(), Fail> {
     let alloc = rt.alloc();
@@ -59,14 +69,11 @@ fn sites_and_members_are_copied(rt: HostRuntime) -> Result<(), Fail> {
     }
     assert!(rt; agree);
     let mut named = false;
-    if let (Some(class), Some(method)) = (Name::of(alloc, "A")?, Name::of(alloc, "m")?) {
-        let member = MemberName::Method(class, method, 1);
-        named = match member.copy(alloc)? {
-            MemberName::Method(class, method, alt) => {
-                class.text() == "A" && method.copy(alloc)?.text() == "m" && alt == 1
-            }
-            MemberName::Field(..) => false,
-        };
+    if let Some(class) = Name::of(alloc, "A")? {
+        if let Some(method) = Name::of(alloc, "m")? {
+            let member = MemberName::Method(class, method, 1);
+            named = is_second_method(&member.copy(alloc)?);
+        }
     }
     assert!(rt; named);
     Ok(())

@@ -290,11 +290,15 @@ fn slowly_told(alloc: Global, text: &str) -> Result<String, AllocError> {
         assigned: "",
     })?;
     let mut lexer = Lexer::new(text);
-    'tokens: while let Some(next) = lexer.next() {
-        let token = match next {
-            Ok(token) => token,
-            Err(LexFault::BadChar(at)) => return format!(in alloc; "{at}: BadChar"),
-            Err(LexFault::OpenComment(at)) => return format!(in alloc; "{at}: OpenComment"),
+    // A text has no more tokens than bytes.
+    for _ in 0..text.len() {
+        let token = match lexer.next() {
+            Some(Ok(token)) => token,
+            Some(Err(LexFault::BadChar(at))) => return format!(in alloc; "{at}: BadChar"),
+            Some(Err(LexFault::OpenComment(at))) => {
+                return format!(in alloc; "{at}: OpenComment");
+            }
+            None => break,
         };
         let next = match token.kind {
             TokenKind::Word => Next::Id(token.text),

@@ -59,7 +59,10 @@ fn constraints_have_the_fewest_brackets(rt: HostRuntime) -> Result<(), Fail> {
     for (constraint, wanted) in CONSTRAINTS {
         let text = format!(in alloc; "features A,B,C;constraint {constraint};")?;
         let print = format!(in alloc; "features A, B, C;\nconstraint {wanted};\n")?;
-        assert!(rt; is_reprinted(alloc, text.as_str(), print.as_str())?, "{constraint}");
+        assert!(rt;
+            is_reprinted(alloc, text.as_str(), print.as_str())?,
+            "{constraint}"
+        );
     }
     Ok(())
 }
@@ -81,7 +84,10 @@ const BODIES: [(&str, &str); 20] = [
     ("((C) x.f.g).h", "((C) x.f.g).h"),
     ("(C) ((D) x).f", "(C) ((D) x).f"),
     ("(new C()).f", "new C().f"),
-    ("new C ( x,(this) , new D() ).m( x )", "new C(x, this, new D()).m(x)"),
+    (
+        "new C ( x,(this) , new D() ).m( x )",
+        "new C(x, this, new D()).m(x)",
+    ),
     ("x.m((x.f),((C) x),(C) ((x).g))", "x.m(x.f, (C) x, (C) x.g)"),
     ("x.m(((C) x).f)", "x.m(((C) x).f)"),
     // marks stand before their argument, in declaration order
@@ -100,13 +106,17 @@ fn bodies_have_the_fewest_brackets(rt: HostRuntime) -> Result<(), Fail> {
         let print = format!(in alloc;
             "features F, G;\nclass A extends B {{\n  A() {{ super(); }}\n  C m(D x) {{ return {wanted}; }}\n}}\n"
         )?;
-        assert!(rt; is_reprinted(alloc, text.as_str(), print.as_str())?, "{body}");
+        assert!(rt;
+            is_reprinted(alloc, text.as_str(), print.as_str())?,
+            "{body}"
+        );
     }
     Ok(())
 }
 
 /// A project in which each kind of node that may be marked is, out of order, in as few bytes as will do; and its print.
-const CROWDED: &str = "features F,G;constraint F|G;constraint!(F&G)->true;@G@F class A extends B{@F C f;D g;A(@G@F C f,D g)\
+const CROWDED: &str =
+    "features F,G;constraint F|G;constraint!(F&G)->true;@G@F class A extends B{@F C f;D g;A(@G@F C f,D g)\
 {super(@F f,g);@G this.f=f;this.g=g;}@F C m(@G D x,@F D y){return x.m(@G@F y,this.f);}D n(){return new D();}}class B extends A{B(){super();}}";
 
 const SPACED: &str = "features F, G;
@@ -162,7 +172,10 @@ fn a_print_stops_where_its_sink_fails(rt: HostRuntime) -> Result<(), Fail> {
         }
         failed = failed.saturating_add(1);
         assert!(rt; held.len() < text.len());
-        assert!(rt; text.as_bytes().starts_with(held.as_slice()), "at put {call}");
+        assert!(rt;
+            text.as_bytes().starts_with(held.as_slice()),
+            "at put {call}"
+        );
     }
     assert!(rt; failed > 2 && failed < 100);
     Ok(())

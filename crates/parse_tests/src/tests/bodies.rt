@@ -4,6 +4,7 @@ use std::test::Fail;
 /// What stands before and behind the expression of a row.
 const BEFORE: &str =
     "features F, G; class A extends Object { A() { super(); } Object m(Object x) { return ";
+
 const BEHIND: &str = "; } }";
 
 /// The reason stands above each row.

@@ -4,7 +4,8 @@ use std::alloc::{AllocError, Global};
 use std::test::Fail;
 
 /// A project with a node of each kind.
-const TEXT: &str = "features F, G; constraint !F | (G & true) -> F <-> false; @F class A extends B { C f; A(C f) { super(f); this.f = f; } \
+const TEXT: &str =
+    "features F, G; constraint !F | (G & true) -> F <-> false; @F class A extends B { C f; A(C f) { super(f); this.f = f; } \
 C m(D x) { return ((A) x.f).m(new B(x, @G this)); } }";
 
 /// The first class of the project that a text stands for, copied as a whole and in its parts; whether all bear their names.

@@ -4,6 +4,7 @@ use std::test::Fail;
 
 /// What stands before the expression of a method, and behind it.
 const BEFORE: &str = "class A extends Object { A() { super(); } A m(A x) { return ";
+
 const BEHIND: &str = "; } }";
 
 /// Whether a text is read.

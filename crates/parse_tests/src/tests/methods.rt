@@ -3,6 +3,7 @@ use std::test::Fail;
 
 /// What stands before and behind the methods of a row.
 const BEFORE: &str = "features F, G; class A extends Object { A() { super(); } ";
+
 const BEHIND: &str = "}";
 
 /// The reason stands above each row.

@@ -199,7 +199,12 @@ enum Next<'a> {
 }
 
 /// The names to be repeated behind the next token, where it is what is wanted.
-fn taken<'a>(want: Want, next: Next<'a>, class: &'a str, assigned: &'a str) -> Option<(&'a str, &'a str)> {
+fn taken<'a>(
+    want: Want,
+    next: Next<'a>,
+    class: &'a str,
+    assigned: &'a str,
+) -> Option<(&'a str, &'a str)> {
     let same = Some((class, assigned));
     match (want, next) {
         (Text(text), Next::Other(found)) if text == found => same,
@@ -334,7 +339,10 @@ fn a_slow_reading_agrees_on_each_prefix(rt: HostRuntime) -> Result<(), Fail> {
             let prefix = &text[..at];
             let found = told(alloc, prefix)?;
             let wanted = slowly_told(alloc, prefix)?;
-            assert!(rt; found.as_str() == wanted.as_str(), "of {prefix}: {found}, not {wanted}");
+            assert!(rt;
+                found.as_str() == wanted.as_str(),
+                "of {prefix}: {found}, not {wanted}"
+            );
         }
         assert!(rt; slowly_told(alloc, text)?.as_str() == "read");
         assert!(rt; told(alloc, text)?.as_str() == "read");

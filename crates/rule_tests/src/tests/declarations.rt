@@ -25,10 +25,7 @@ const KNOWN: [Row; 14] = [
         "C.new(0) K1",
     ),
     // and where it isn't, another rule comes first
-    (
-        "class A extends Object { A(B f) { super(); } }",
-        "A.new K4",
-    ),
+    ("class A extends Object { A(B f) { super(); } }", "A.new K4"),
     // a method's result, and its parameters
     (
         "class A extends Object { A() { super(); } B m() { return this; } }",

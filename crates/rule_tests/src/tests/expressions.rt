@@ -3,9 +3,11 @@ use std::alloc::{AllocError, Global};
 use std::test::Fail;
 
 /// A class without fields, one below it with a field and methods, and one beside them, before and behind the methods of a row.
-const BEFORE: &str = "class P extends Object { P() { super(); } Object id(Object x) { return x; } } \
+const BEFORE: &str =
+    "class P extends Object { P() { super(); } Object id(Object x) { return x; } } \
 class Q extends P { P f; Q(P f) { super(); this.f = f; } P get() { return this.f; } Q with(P x, Q y) { return y; } } \
 class R extends Object { R() { super(); } ";
+
 const BEHIND: &str = " }";
 
 /// The first row, if there is one, of which something else is told.

@@ -39,7 +39,11 @@ fn is_known(project: &Project, name: &str) -> bool {
 }
 
 /// The classes from this one upwards, up to one that isn't declared or that was met.
-fn chain<'a>(alloc: Global, project: &'a Project, name: &'a str) -> Result<Vec<&'a Class>, AllocError> {
+fn chain<'a>(
+    alloc: Global,
+    project: &'a Project,
+    name: &'a str,
+) -> Result<Vec<&'a Class>, AllocError> {
     let mut found: Vec<&'a Class> = Vec::new(alloc);
     let mut at = name;
     for _ in 0..project.class_count() {
@@ -55,12 +59,21 @@ fn chain<'a>(alloc: Global, project: &'a Project, name: &'a str) -> Result<Vec<&
     Ok(found)
 }
 
-fn is_subtype(alloc: Global, project: &Project, class: &str, above: &str) -> Result<bool, AllocError> {
+fn is_subtype(
+    alloc: Global,
+    project: &Project,
+    class: &str,
+    above: &str,
+) -> Result<bool, AllocError> {
     let chain = chain(alloc, project, class)?;
     Ok(class == above || chain.iter().any(|met| met.parent.text() == above))
 }
 
-fn fields<'a>(alloc: Global, project: &'a Project, name: &'a str) -> Result<Vec<&'a Field>, AllocError> {
+fn fields<'a>(
+    alloc: Global,
+    project: &'a Project,
+    name: &'a str,
+) -> Result<Vec<&'a Field>, AllocError> {
     let chain = chain(alloc, project, name)?;
     let mut found: Vec<&'a Field> = Vec::new(alloc);
     for class in chain.iter().rev() {
@@ -72,7 +85,11 @@ fn fields<'a>(alloc: Global, project: &'a Project, name: &'a str) -> Result<Vec<
 }
 
 fn method_of<'a>(class: &'a Class, name: &str) -> Option<&'a Method> {
-    class.methods.slice().iter().find(|method| method.name.text() == name)
+    class
+        .methods
+        .slice()
+        .iter()
+        .find(|method| method.name.text() == name)
 }
 
 fn nearest_method<'a>(chain: &[&'a Class], name: &str) -> Option<&'a Method> {
@@ -87,7 +104,11 @@ fn nearest_method<'a>(chain: &[&'a Class], name: &str) -> Option<&'a Method> {
 
 fn nearest_field<'a>(chain: &[&'a Class], name: &str) -> Option<&'a Field> {
     for class in chain {
-        let found = class.fields.slice().iter().find(|field| field.name.text() == name);
+        let found = class
+            .fields
+            .slice()
+            .iter()
+            .find(|field| field.name.text() == name);
         if found.is_some() {
             return found;
         }
@@ -97,7 +118,11 @@ fn nearest_field<'a>(chain: &[&'a Class], name: &str) -> Option<&'a Field> {
 
 // ---- declarations
 
-fn class_break(alloc: Global, project: &Project, class: &Class) -> Result<Option<String>, AllocError> {
+fn class_break(
+    alloc: Global,
+    project: &Project,
+    class: &Class,
+) -> Result<Option<String>, AllocError> {
     let name = class.name.text();
     let above = chain(alloc, project, name)?;
     let own = [
@@ -131,7 +156,11 @@ fn field_break(
     let (owner, name) = (class.name.text(), field.name.text());
     let mut hides = false;
     for met in above {
-        let has = met.fields.slice().iter().any(|other| other.name.text() == name);
+        let has = met
+            .fields
+            .slice()
+            .iter()
+            .any(|other| other.name.text() == name);
         hides = hides || (has && met.name.text() != owner);
     }
     let site = format!(in alloc; "{owner}.{name}")?;
@@ -144,7 +173,11 @@ fn are_same(left: &[&str], right: &[&str]) -> bool {
     left == right
 }
 
-fn ctor_break(alloc: Global, project: &Project, class: &Class) -> Result<Option<String>, AllocError> {
+fn ctor_break(
+    alloc: Global,
+    project: &Project,
+    class: &Class,
+) -> Result<Option<String>, AllocError> {
     let name = class.name.text();
     let mut wanted: Vec<&str> = Vec::new(alloc);
     for field in fields(alloc, project, name)?.iter() {
@@ -183,7 +216,11 @@ fn ctor_break(alloc: Global, project: &Project, class: &Class) -> Result<Option<
         if found.is_none() {
             let slot = param.slot;
             let site = format!(in alloc; "{name}.new({slot})")?;
-            found = first(alloc, site.as_str(), &[("K1", !is_known(project, param.of.text()))])?;
+            found = first(
+                alloc,
+                site.as_str(),
+                &[("K1", !is_known(project, param.of.text()))],
+            )?;
         }
     }
     Ok(found)
@@ -230,7 +267,11 @@ fn method_break(
         if found.is_none() {
             let slot = param.slot;
             let site = format!(in alloc; "{owner}.{name}({slot})")?;
-            found = first(alloc, site.as_str(), &[("K1", !is_known(project, param.of.text()))])?;
+            found = first(
+                alloc,
+                site.as_str(),
+                &[("K1", !is_known(project, param.of.text()))],
+            )?;
         }
     }
     for slot in 0..body.nodes.len() {
@@ -378,9 +419,10 @@ impl<'a> Body<'a> {
     ) -> Result<(bool, Vec<usize>), AllocError> {
         let mut slots = Vec::new(alloc);
         let args = args_of(node);
-        let (Some(types), Some(wanted)) =
-            (self.types_of(alloc, args)?, self.wanted(alloc, project, node)?)
-        else {
+        let (Some(types), Some(wanted)) = (
+            self.types_of(alloc, args)?,
+            self.wanted(alloc, project, node)?,
+        ) else {
             return Ok((false, slots));
         };
         if types.len() != wanted.len() {
@@ -427,7 +469,12 @@ impl<'a> Body<'a> {
     }
 
     /// Whether all parts of a node that is no variable have types, none of its own rules breaks, and no argument misfits.
-    fn fits(&self, alloc: Global, project: &'a Project, node: &'a Expr) -> Result<bool, AllocError> {
+    fn fits(
+        &self,
+        alloc: Global,
+        project: &'a Project,
+        node: &'a Expr,
+    ) -> Result<bool, AllocError> {
         let part = match part_of(node) {
             Some(part) => self.type_at(slot_of(part)).is_some(),
             None => true,

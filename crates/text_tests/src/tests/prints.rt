@@ -64,6 +64,7 @@ fn a_project_with_each_kind_of_mark_has_its_variants(rt: HostRuntime) -> Result<
 /// A parameter and an argument that come and go together, and the same where the parameter stays.
 const AGREEING: &str = "features A; class X extends Object { X() { super(); } \
 Object m(@A X p, Object q) { return q; } Object n(X e, Object y) { return e.m(@A e, y); } }";
+
 const DISAGREEING: &str = "features A; class X extends Object { X() { super(); } \
 Object m(X p, Object q) { return q; } Object n(X e, Object y) { return e.m(@A e, y); } }";
 
@@ -82,7 +83,10 @@ Object n(X e, Object y) {{ return {call}; }}\n}}\n"
         )?;
         let answer = export(&rt, text, names)?;
         assert_eq!(rt; answer.status, 0, "{params} {names}");
-        assert!(rt; answer.out.as_slice() == wanted.as_bytes(), "{params} {names}");
+        assert!(rt;
+            answer.out.as_slice() == wanted.as_bytes(),
+            "{params} {names}"
+        );
     }
     Ok(())
 }

@@ -8,6 +8,7 @@
 mod accept;
 mod assigns;
 mod ctors;
+mod goal;
 mod heads;
 mod machine;
 mod members;

@@ -40,7 +40,7 @@ pub same_name : (w : List ℕ) → bytes_eq w w ≡ true
 same_name w = (bytes_eq-Decides w w).1 refl
 
 -- an item at the end of a numbered list, and those after it
-numbered_on : {A B : Type 0} (f : ℕ → A → B) (before : List B) (x : A) (xs : List A) → (before ++ f (length before) x ∷ []) ++ numbered f (length (before ++ f (length before) x ∷ [])) xs ≡ before ++ numbered f (length before) (x ∷ xs)
+pub numbered_on : {A B : Type 0} (f : ℕ → A → B) (before : List B) (x : A) (xs : List A) → (before ++ f (length before) x ∷ []) ++ numbered f (length (before ++ f (length before) x ∷ [])) xs ≡ before ++ numbered f (length before) (x ∷ xs)
 numbered_on f before x xs =
     ap (λ n. (before ++ f (length before) x ∷ []) ++ numbered f n xs) (length-append before (f (length before) x ∷ [])) ∙ append_assoc before (f (length before) x ∷ []) (numbered f (length before + 1) xs)
 

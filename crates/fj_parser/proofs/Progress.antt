@@ -115,7 +115,7 @@ module _ {V : Type 0} (l : Language V) (m : Reader) (laws : Reads l m) where
       let roles : f.front.roles ≡ (h.roles ++ b.before) ++ b.r ∷ (b.after ++ f.others) =
       f.in_roles ∙ ap (λ z. (h.roles ++ z) ++ f.others) b.all ∙ ap (λ z. z ++ f.others) (sym (append_assoc h.roles b.before (b.r ∷ b.after))) ∙ append_assoc (h.roles ++ b.before) (b.r ∷ b.after) f.others in
       let long : length h.roles + length (m.pending s) ≡ length h.tokens = front_long l m laws h.tokens s h.roles h.ran in
-      let each : length (m.emitted s token) + length (m.pending n) ≡ suc (length (m.pending s)) = laws.each s n token goes in
+      let each : length (m.emitted s token) + length (m.pending n) ≡ suc (length (m.pending s)) = laws.each h.tokens s n h.roles token h.ran goes in
       let some : length (m.emitted s token) ≡ length b.before + suc (length b.after) = ap length b.all ∙ length-append b.before (b.r ∷ b.after) in
       let there : length b.before ≡ place = b.there in
       let some_tokens : length (h.tokens ++ token ∷ []) ≡ length h.tokens + 1 = length-append h.tokens (token ∷ []) in

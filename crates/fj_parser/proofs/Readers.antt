@@ -85,26 +85,31 @@ module _ (m : Reader) where
 -- ---- what the laws give
 
 module _ {V : Type 0} (l : Language V) (m : Reader) (laws : Reads l m) where
-  -- each token gives a role, at once or later
-  run_long : (ts : List Token) (s n : m.State) → (run_of m ts s).0 ≡ Some n → length (run_of m ts s).1 + length (m.pending n) ≡ length (m.pending s) + length ts
+  -- before the first token nothing is read
+  nothing_read : run_of m [] m.start ≡ (Some m.start, [])
   unfolding run_of
-  run_long [] s n h =
+  nothing_read = refl
+
+  -- each token behind what was read gives a role, at once or later
+  run_long : (front ts : List Token) (s n : m.State) (qs : List Role) → run_of m front m.start ≡ (Some s, qs) → (run_of m ts s).0 ≡ Some n → length (run_of m ts s).1 + length (m.pending n) ≡ length (m.pending s) + length ts
+  unfolding run_of
+  run_long front [] s n qs ran h =
       let alike : length (m.pending s) ≡ length (m.pending n) = ap (λ x. length (m.pending x)) (same_Some s n h) in
       omega arith
-  run_long (t ∷ ts) s n h = go (λ x e. run_long ts x n e) (m.step s t) refl h
+  run_long front (t ∷ ts) s n qs ran h = go (λ x goes e. run_long (front ++ t ∷ []) ts x n (qs ++ m.emitted s t) (run_more m front t s x qs ran goes) e) (m.step s t) refl h
     where
-      go : ((x : m.State) → (run_of m ts x).0 ≡ Some n → length (run_of m ts x).1 + length (m.pending n) ≡ length (m.pending x) + length ts) → (o : Option m.State) → m.step s t ≡ o → (then_run (run_of m ts) (m.emitted s t) o).0 ≡ Some n → length (then_run (run_of m ts) (m.emitted s t) o).1 + length (m.pending n) ≡ length (m.pending s) + suc (length ts)
+      go : ((x : m.State) → m.step s t ≡ Some x → (run_of m ts x).0 ≡ Some n → length (run_of m ts x).1 + length (m.pending n) ≡ length (m.pending x) + length ts) → (o : Option m.State) → m.step s t ≡ o → (then_run (run_of m ts) (m.emitted s t) o).0 ≡ Some n → length (then_run (run_of m ts) (m.emitted s t) o).1 + length (m.pending n) ≡ length (m.pending s) + suc (length ts)
       go ih None goes h = absurd (none-some n h)
       go ih (Some x) goes h =
           let long : length (m.emitted s t ++ (run_of m ts x).1) ≡ length (m.emitted s t) + length (run_of m ts x).1 = length-append (m.emitted s t) (run_of m ts x).1 in
-          let one : length (m.emitted s t) + length (m.pending x) ≡ suc (length (m.pending s)) = laws.each s x t goes in
-          let others : length (run_of m ts x).1 + length (m.pending n) ≡ length (m.pending x) + length ts = ih x h in
+          let one : length (m.emitted s t) + length (m.pending x) ≡ suc (length (m.pending s)) = laws.each front s x qs t ran goes in
+          let others : length (run_of m ts x).1 + length (m.pending n) ≡ length (m.pending x) + length ts = ih x goes h in
           omega arith
 
   -- behind a front as many roles are settled or wait as it has tokens
   pub front_long : (ts : List Token) (s : m.State) (rs : List Role) → run_of m ts m.start ≡ (Some s, rs) → length rs + length (m.pending s) ≡ length ts
   front_long ts s rs h =
-      let long : length (run_of m ts m.start).1 + length (m.pending s) ≡ length (m.pending m.start) + length ts = run_long ts m.start s (ap (λ p. p.0) h) in
+      let long : length (run_of m ts m.start).1 + length (m.pending s) ≡ length (m.pending m.start) + length ts = run_long [] ts m.start s [] nothing_read (ap (λ p. p.0) h) in
       let is : length (run_of m ts m.start).1 ≡ length rs = ap (λ p. length p.1) h in
       let none : length (m.pending m.start) ≡ 0 = ap length laws.first in
       omega arith

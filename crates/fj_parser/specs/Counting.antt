@@ -1,38 +1,82 @@
--- The lists in hand against what was counted.
-use Rattle.std.specs.Prelude.{◌≡◌, ℕ, ◌≤◌, Bool, true, false, length}
+-- What is in hand against what was counted.
+use Rattle.std.specs.Prelude.{◌≡◌, ℕ, ◌+◌, ◌≤◌, length}
+use Rattle.cfj_model.specs.ProductLines.{most_features, most_in_ctor, most_nodes}
 use Rattle.cfj_model.specs.Roles.{Tally}
+use Rattle.expression_reader.specs.Reading.{owed}
 use Rattle.fj_parser.specs.Machine.{State}
 use Rattle.fj_parser.specs.declared.mode.Node.TheVariants as node
 use Rattle.fj_parser.specs.declared.mode.Mode.{Mode}
-use Rattle.fj_parser.specs.declared.mode.Mode.TheVariants.{Begin, AfterFeatures, AfterFeature, AfterFeatureComma, Start, InConstraint, BetweenClasses, AfterAt, AfterMark, AfterClass}
+use Rattle.fj_parser.specs.declared.mode.Mode.TheVariants.{Begin, AfterFeatures, AfterFeature, AfterFeatureComma, Start, InConstraint, BetweenClasses, AfterAt, AfterMark, AfterClass, InMethods, AfterResult, InExpression, AfterBody, AtEnd}
 
--- the modes before a class's name
-abbrev pub is_bare_mode : Mode → Bool
-is_bare_mode Begin = true
-is_bare_mode AfterFeatures = true
-is_bare_mode AfterFeature = true
-is_bare_mode AfterFeatureComma = true
-is_bare_mode Start = true
-is_bare_mode InConstraint = true
-is_bare_mode BetweenClasses = true
-is_bare_mode (AfterAt node.Class) = true
-is_bare_mode (AfterMark node.Class) = true
-is_bare_mode AfterClass = true
-is_bare_mode _ = false
+-- The places of a text, by what may be in hand there: before a class's name nothing of a class; behind a constructor, before a
+-- method's name, no parameters; before a method's body no expression; and in it anything.
+pub data Place : Type 0 where
+  before_class : Place
+  before_method : Place
+  before_body : Place
+  in_body : Place
 
--- Lists of these lengths, `n` of the features and the others of a class, are no longer than what was counted, which is within
--- the limit. Before a class's name those of a class are empty.
-pub record IsCounted (bare : Bool) (n p q r : ℕ) (t : Tally) : Type 0 where
-  pub empty : bare ≡ true → (p ≡ 0) × (q ≡ 0) × (r ≡ 0)
-  pub features : n ≤ length t.features
-  pub params : p ≤ length t.params
-  pub sends : q ≤ t.sends
-  pub assigns : r ≤ t.assigns
-  pub few_features : length t.features ≤ 128
-  pub few_params : length t.params ≤ 1024
-  pub few_sends : t.sends ≤ 1024
-  pub few_assigns : t.assigns ≤ 1024
+-- the place where a mode stands
+abbrev pub place_of : Mode → Place
+place_of Begin = before_class
+place_of AfterFeatures = before_class
+place_of AfterFeature = before_class
+place_of AfterFeatureComma = before_class
+place_of Start = before_class
+place_of InConstraint = before_class
+place_of BetweenClasses = before_class
+place_of (AfterAt node.Class) = before_class
+place_of (AfterMark node.Class) = before_class
+place_of AfterClass = before_class
+place_of AtEnd = before_class
+place_of InMethods = before_method
+place_of (AfterAt node.Method) = before_method
+place_of (AfterMark node.Method) = before_method
+place_of AfterResult = before_method
+place_of AfterBody = before_method
+place_of InExpression = in_body
+place_of _ = before_body
 
--- the lists in hand are no longer than what was counted
+-- How much is in hand: features, parameters, names that are sent, assignments, and the slots that nodes of an expression took,
+-- with the one that is still to be taken.
+pub record InHand : Type 0 where
+  pub features : ℕ
+  pub params : ℕ
+  pub sends : ℕ
+  pub assigns : ℕ
+  pub slots : ℕ
+
+abbrev pub in_hand : State → InHand
+in_hand s =
+    record {
+      features = length s.features;
+      params = length s.params;
+      sends = length s.sends;
+      assigns = length s.assigns;
+      slots = s.expression.slot + owed s.expression.mode;
+    }
+
+-- what can't be in hand at a place isn't
+abbrev pub IsEmptyAt : Place → InHand → Type 0
+IsEmptyAt before_class n = (n.params ≡ 0) × (n.sends ≡ 0) × (n.assigns ≡ 0) × (n.slots ≡ 0)
+IsEmptyAt before_method n = (n.params ≡ 0) × (n.slots ≡ 0)
+IsEmptyAt before_body n = n.slots ≡ 0
+IsEmptyAt in_body n = Unit {0}
+
+-- At a place there is no more in hand than what was counted, which is within the limits.
+pub record IsCounted (place : Place) (n : InHand) (t : Tally) : Type 0 where
+  pub empty : IsEmptyAt place n
+  pub features : n.features ≤ length t.features
+  pub params : n.params ≤ length t.params
+  pub sends : n.sends ≤ t.sends
+  pub assigns : n.assigns ≤ t.assigns
+  pub slots : n.slots ≤ t.nodes
+  pub few_features : length t.features ≤ most_features
+  pub few_params : length t.params ≤ most_in_ctor
+  pub few_sends : t.sends ≤ most_in_ctor
+  pub few_assigns : t.assigns ≤ most_in_ctor
+  pub few_nodes : t.nodes ≤ most_nodes
+
+-- no more is in hand than what was counted
 abbrev pub Counted : State → Tally → Type 0
-Counted s t = IsCounted (is_bare_mode s.mode) (length s.features) (length s.params) (length s.sends) (length s.assigns) t
+Counted s t = IsCounted (place_of s.mode) (in_hand s) t

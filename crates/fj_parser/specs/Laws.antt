@@ -44,7 +44,7 @@ pub record Reads {V : Type 0} (l : Language V) (m : Reader) : Type 0 where
   pub closes : (ts : List Token) (s : m.State) (rs : List Role) → run_of m ts m.start ≡ (Some s, rs) → Closes l ts rs (m.pending s)
   pub first : m.pending m.start ≡ []
   pub last : (x : l.Tree) → m.pending (ended x) ≡ []
-  pub each : (s n : m.State) (t : Token) → m.step s t ≡ Some n → length (m.emitted s t) + length (m.pending n) ≡ suc (length (m.pending s))
+  pub each : (ts : List Token) (s n : m.State) (rs : List Role) (t : Token) → run_of m ts m.start ≡ (Some s, rs) → m.step s t ≡ Some n → length (m.emitted s t) + length (m.pending n) ≡ suc (length (m.pending s))
   pub settles : (ts : List Token) (s : m.State) (x : l.Tree) (rs : List Role) → run_of m ts s ≡ (Some (ended x), rs) → Settles (m.pending s) rs
   pub settled : (ts : List Token) (s : m.State) (rs : List Role) → run_of m ts m.start ≡ (Some s, rs) → are_settled (rs ++ m.pending s) ≡ true
   pub named : (ts : List Token) (s : m.State) (rs : List Role) → run_of m ts m.start ≡ (Some s, rs) → are_read ts ≡ true → m.takes_name s ≡ true → GoesByName m s

@@ -141,10 +141,16 @@ impl<'a> Machine<'a> {
             ctor,
             methods: Items::of(methods),
         })?;
+        self.params.clear();
+        self.sends.clear();
+        self.assigns.clear();
         self.class_colors = Colors::empty();
+        self.method_colors = Colors::empty();
         self.colors = Colors::empty();
         self.name = NO_NAME;
         self.parent = NO_NAME;
+        self.result_type = NO_NAME;
+        self.method = NO_NAME;
         self.of = NO_NAME;
         self.last = NO_NAME;
         self.mode = Mode::BetweenClasses;

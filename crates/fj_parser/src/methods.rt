@@ -135,7 +135,7 @@ impl<'a> Machine<'a> {
 
     fn push_method(&mut self, alloc: Global, body: Expr) -> Result<(), AllocError>
         requires { reader_seen self.old.expression ≡ expression.start }
-        ensures { OnOk result (machine_seen self.new ≡ spec.with_method (machine_seen self.old) body.entry) }
+        ensures { OnOk result (machine_seen self.new ≡ spec.with_method (machine_seen self.old) body) }
     {
         let result_type = name_of(alloc, self.result_type)?;
         let name = name_of(alloc, self.method)?;

@@ -33,6 +33,9 @@ impl ExpressionReader {
 
     /// Goes on by one token; `false` where no text of an expression can.
     ///
+    /// The names whose roles the token settles must be short. A name behind a bracket may be of any length as long as its role
+    /// waits, since a fault of an earlier token may yet be told before that name's.
+    ///
     /// Behind an error or `false` nothing is known of it.
     ///
     /// # Errors

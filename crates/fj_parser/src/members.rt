@@ -125,6 +125,7 @@ impl<'a> Machine<'a> {
         Ok(())
     }
 
+    /// The class in hand is whole; nothing of it stays in hand.
     pub(crate) fn push_class(&mut self, alloc: Global) -> Result<(), AllocError>
         ensures { OnOk result (machine_seen self.new ≡ spec.with_class (machine_seen self.old)) }
     {

@@ -3,6 +3,7 @@ pub mod Answers
 pub mod Built
 pub mod Counting
 pub mod Goals
+pub mod GoalViews
 pub mod Languages
 pub mod Laws
 pub mod Machine

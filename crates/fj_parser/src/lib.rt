@@ -16,6 +16,7 @@ mod methods;
 mod mode;
 mod params;
 mod parser;
+mod passage;
 mod role;
 
 pub use parser::parse_project;

@@ -1,0 +1,26 @@
+-- How the machine goes on for a goal.
+use Rattle.std.specs.Prelude.{◌≡◌, Bool, true, false, Some, None}
+use Rattle.cfj_model.specs.Tokens.{Token, Semicolon, End}
+use Rattle.fj_parser.specs.Goals.{step_for, with_single_field}
+use Rattle.fj_parser.specs.Machine.{State, step_in, to}
+use Rattle.fj_parser.specs.declared.goal.Goal.{Goal}
+use Rattle.fj_parser.specs.declared.mode.Mode.{Mode}
+use Rattle.fj_parser.specs.declared.mode.Mode.TheVariants.{AtEnd}
+use Rattle.fj_parser.specs.declared.passage.Passage.{Passage}
+use Rattle.fj_parser.specs.declared.passage.Passage.TheVariants.{Stops, Ends, EndsField, EndsExpression, Steps}
+
+-- what a token does in this mode
+abbrev pub DoesIn : Mode → Passage → Goal → State → Token → Type 0
+DoesIn m Stops g s t = step_for g m s t ≡ None
+DoesIn m Ends g s t = step_for g m s t ≡ to AtEnd s
+DoesIn m EndsField g s t = step_for g m s t ≡ Some (with_single_field s)
+DoesIn m EndsExpression g s t = (t ≡ End) × (step_for g m s t ≡ step_in m s Semicolon)
+DoesIn m Steps g s t = step_for g m s t ≡ step_in m s t
+
+abbrev pub Does : Passage → Goal → State → Token → Type 0
+Does p g s t = DoesIn s.mode p g s t
+
+-- the machine went on, or could not
+abbrev pub GoesFor : Goal → Bool → State → Token → State → Type 0
+GoesFor g true old t new = step_for g old.mode old t ≡ Some new
+GoesFor g false old t new = step_for g old.mode old t ≡ None

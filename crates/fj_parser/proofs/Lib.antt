@@ -22,3 +22,5 @@ pub mod Standing
 pub mod Texts
 pub mod TextsKept
 pub mod TokenReads
+pub mod GoalCounted
+pub mod PartFeatures

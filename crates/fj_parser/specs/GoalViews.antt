@@ -1,11 +1,15 @@
 -- How the machine goes on for a goal.
 use Rattle.std.specs.Prelude.{◌≡◌, Bool, true, false, Some, None}
 use Rattle.cfj_model.specs.Tokens.{Token, Semicolon, End}
-use Rattle.fj_parser.specs.Goals.{step_for, with_single_field}
+use Rattle.cfj_model.specs.Roles.{Tally}
+use Rattle.fj_parser.specs.Goals.{step_for, with_single_field, reader_for}
+use Rattle.fj_parser.specs.Languages.{with_features}
 use Rattle.fj_parser.specs.Machine.{State, step_in, to}
 use Rattle.fj_parser.specs.declared.goal.Goal.{Goal}
 use Rattle.fj_parser.specs.declared.mode.Mode.{Mode}
 use Rattle.fj_parser.specs.declared.mode.Mode.TheVariants.{AtEnd}
+use Rattle.fj_parser.specs.Readers.{Reader}
+use Rattle.fj_parser.specs.declared.part.Part.{Part}
 use Rattle.fj_parser.specs.declared.passage.Passage.{Passage}
 use Rattle.fj_parser.specs.declared.passage.Passage.TheVariants.{Stops, Ends, EndsField, EndsExpression, Steps}
 
@@ -24,3 +28,10 @@ Does p g s t = DoesIn s.mode p g s t
 abbrev pub GoesFor : Goal → Bool → State → Token → State → Type 0
 GoesFor g true old t new = step_for g old.mode old t ≡ Some new
 GoesFor g false old t new = step_for g old.mode old t ≡ None
+
+-- the machine that reads a part, and what counts as met before it
+abbrev pub reader_of : Part → Reader
+reader_of p = reader_for p.goal p.features.now p.class.now
+
+abbrev pub met_of : Part → Tally
+met_of p = with_features p.features.now

@@ -16,6 +16,7 @@ mod methods;
 mod mode;
 mod params;
 mod parser;
+mod part;
 mod passage;
 mod role;
 

@@ -1,12 +1,12 @@
 pub mod Accepting
 pub mod Answers
-pub mod Built
 pub mod Counting
-pub mod Goals
 pub mod GoalViews
+pub mod Goals
 pub mod Languages
 pub mod Laws
 pub mod Machine
 pub mod MachineViews
 pub mod Readers
 pub mod Reading
+pub mod Waiting

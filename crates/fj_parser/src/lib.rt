@@ -19,5 +19,7 @@ mod parser;
 mod part;
 mod passage;
 mod role;
+mod settle;
+mod waiting;
 
 pub use parser::parse_project;

@@ -1,5 +1,7 @@
 -- No more is in hand than what was counted, where a part is read by itself.
 use Rattle.std.proofs.Common.{◌≡◌, ℕ, ◌≤◌, Bool, true, false, List, [], ◌∷◌, ◌++◌, length, Option, Some, None, IfSome, refl, sym, ap, subst, ◌∙◌, arith, cond}
+use Rattle.std.proofs.lemmas.Bool.{leb-true}
+use Rattle.std.specs.Prelude.{nat_le}
 use Rattle.std.specs.Str.{bytes_eq}
 use Rattle.cfj_model.specs.declared.class.Class.{Class}
 use Rattle.cfj_model.specs.declared.class.Field.{Field}
@@ -118,7 +120,7 @@ features_counted place k features le few =
     none before_body = refl
     none in_body = tt
 
-pub starts_counted : (g : Goal) (features : List (List ℕ)) (class : List ℕ) → length features ≤ most_features → Counted (start_for g features class) (with_features features)
+starts_counted : (g : Goal) (features : List (List ℕ)) (class : List ℕ) → length features ≤ most_features → Counted (start_for g features class) (with_features features)
 starts_counted goal.Project features class few = features_counted before_class 0 features (omega arith) few
 starts_counted goal.Model features class few = features_counted before_class 0 features (omega arith) few
 starts_counted goal.Class features class few = features_counted before_class (length features) features (omega arith) few
@@ -128,3 +130,7 @@ starts_counted goal.Method features class few = features_counted before_method (
 starts_counted goal.Member features class few = features_counted before_method (length features) features (omega arith) few
 starts_counted goal.Name features class few = features_counted before_body (length features) features (omega arith) few
 starts_counted goal.Expression features class few = features_counted in_body (length features) features (omega arith) few
+
+pub first_counted : (g : Goal) (features : List (List ℕ)) (class : List ℕ) (s : State) (t : Tally) → nat_le (length features) most_features ≡ true → s ≡ start_for g features class → t ≡ with_features features → Counted s t
+first_counted g features class s t few is counts =
+    subst (λ n. Counted n t) (sym is) (subst (λ u. Counted (start_for g features class) u) (sym counts) (starts_counted g features class (leb-true _ _ few)))

@@ -4,6 +4,7 @@ pub mod Closing
 pub mod Complete
 pub mod Counted
 pub mod CountedRoles
+pub mod Endings
 pub mod Exact
 pub mod Expressions
 pub mod FirstFault
@@ -26,5 +27,6 @@ pub mod Standing
 pub mod Texts
 pub mod TextsKept
 pub mod TokenReads
+pub mod GoalBehind
 pub mod GoalCounted
 pub mod PartFeatures

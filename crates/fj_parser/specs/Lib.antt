@@ -1,6 +1,7 @@
 pub mod Accepting
 pub mod Answers
 pub mod Counting
+pub mod Ending
 pub mod GoalViews
 pub mod Goals
 pub mod Languages

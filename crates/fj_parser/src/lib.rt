@@ -18,6 +18,7 @@ mod params;
 mod parser;
 mod part;
 mod passage;
+mod reading;
 mod role;
 mod settle;
 mod waiting;

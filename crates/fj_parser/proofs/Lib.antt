@@ -1,7 +1,9 @@
 pub mod Accepted
+pub mod Behind
 pub mod Closing
 pub mod Complete
 pub mod Counted
+pub mod CountedRoles
 pub mod Exact
 pub mod Expressions
 pub mod FirstFault
@@ -13,7 +15,9 @@ pub mod LexedTokens
 pub mod ListsSound
 pub mod MembersSound
 pub mod MethodsSound
+pub mod Named
 pub mod Naming
+pub mod Places
 pub mod Progress
 pub mod Readers
 pub mod Sound

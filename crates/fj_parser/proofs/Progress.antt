@@ -18,11 +18,11 @@ use Rattle.fj_parser.proofs.Texts.{takes_more, takes_read, scalars_of}
 
 -- ---- lists of roles in two parts
 
-tallied_append : (t : Tally) (rs qs : List Role) → tallied t (rs ++ qs) ≡ tallied (tallied t rs) qs
+pub tallied_append : (t : Tally) (rs qs : List Role) → tallied t (rs ++ qs) ≡ tallied (tallied t rs) qs
 tallied_append t [] qs = refl
 tallied_append t (r ∷ rs) qs = tallied_append (counted t r) rs qs
 
-within_append : (t : Tally) (rs qs : List Role) → AreWithin t rs → AreWithin (tallied t rs) qs → AreWithin t (rs ++ qs)
+pub within_append : (t : Tally) (rs qs : List Role) → AreWithin t rs → AreWithin (tallied t rs) qs → AreWithin t (rs ++ qs)
 within_append t [] qs h k = k
 within_append t (r ∷ rs) qs h k = (h.0, within_append (counted t r) rs qs h.1 k)
 
@@ -64,7 +64,7 @@ module _ {V : Type 0} (l : Language V) (m : Reader) (laws : Reads l m) where
       subst (λ x. IsReading l m x b s t) (sym p)
       (subst (λ x. IsReading l m text x s t) (sym q) (subst (λ x. IsReading l m text text x t) (sym r) (subst (λ x. IsReading l m text text m.start x) (sym u) (reads_nothing text))))
 
-  pub reads_more : (text rest : List ℕ) (s n : m.State) (t u : Tally) (x : Lexeme) (from next : List ℕ) → IsReading l m text rest s t → next_lexeme (chars rest) ≡ Found x from (chars next) → IsAccepted m s t (token_of x) n u → IsReading l m text next n u
+  abbrev pub reads_more : (text rest : List ℕ) (s n : m.State) (t u : Tally) (x : Lexeme) (from next : List ℕ) → IsReading l m text rest s t → next_lexeme (chars rest) ≡ Found x from (chars next) → IsAccepted m s t (token_of x) n u → IsReading l m text next n u
   reads_more text rest s n t u x from next h found a =
       record {
         tokens = h.tokens ++ token_of x ∷ [];

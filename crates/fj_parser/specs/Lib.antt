@@ -1,6 +1,5 @@
 pub mod Accepting
 pub mod Answers
-pub mod Built
 pub mod Counting
 pub mod Goals
 pub mod Languages
@@ -9,3 +8,4 @@ pub mod Machine
 pub mod MachineViews
 pub mod Readers
 pub mod Reading
+pub mod Waiting

@@ -1,5 +1,5 @@
 -- A reader takes one token at a time: how it goes on, and the roles that it gives.
-use Rattle.std.specs.Prelude.{◌&&◌, if◌then◌else◌, Bool, List, [], ◌∷◌, ◌++◌, Option, Some, None}
+use Rattle.std.specs.Prelude.{◌≡◌, ◌&&◌, if◌then◌else◌, Bool, List, [], ◌∷◌, ◌++◌, Option, Some, None}
 use Rattle.cfj_model.specs.declared.fault.FaultKind.{FaultKind}
 use Rattle.cfj_model.specs.declared.fault.FaultKind.TheVariants as fault
 use Rattle.cfj_model.specs.Tokens.{Token, is_reserved_word}
@@ -30,6 +30,12 @@ then_run f rs (Some s) = with_roles rs (f s)
 unfoldable pub run_of : (m : Reader) → List Token → m.State → Run m.State
 run_of m [] s = (Some s, [])
 run_of m (t ∷ ts) s = then_run (run_of m ts) (m.emitted s t) (m.step s t)
+
+-- tokens lead to the state from the start
+pub record IsReached (m : Reader) (s : m.State) : Type 0 where
+  pub tokens : List Token
+  pub roles : List Role
+  pub ran : run_of m tokens m.start ≡ (Some s, roles)
 
 -- how a token that can't stand here is named
 abbrev pub misplaced_as : Bool → Token → FaultKind

@@ -1,10 +1,10 @@
 -- How the parser stands towards the text that it reads.
-use Rattle.std.specs.Prelude.{◌≡◌, ℕ, List, Some}
+use Rattle.std.specs.Prelude.{◌≡◌, ℕ, ◌+◌, List, length, take, slice_get, Some}
 use Rattle.std.specs.Str.{chars}
-use Rattle.cfj_model.specs.Faults.{Language}
+use Rattle.cfj_model.specs.Faults.{Language, StandsBehind}
 use Rattle.cfj_model.specs.ProductLines.{ProductLine}
 use Rattle.cfj_model.specs.Roles.{Role, Tally, tallied, AreWithin}
-use Rattle.cfj_model.specs.Tokens.{Token, Takes}
+use Rattle.cfj_model.specs.Tokens.{Token, Takes, place_of}
 use Rattle.cfj_model.specs.declared.formula.Formula.{Formula}
 use Rattle.cfj_model.specs.declared.class.Class.{Class}
 use Rattle.cfj_model.specs.declared.fault.FaultKind.{FaultKind}
@@ -22,6 +22,18 @@ pub record IsReading {V : Type 0} (l : Language V) (m : Reader) (text rest : Lis
   pub ran : run_of m tokens m.start ≡ (Some s, roles)
   pub within : AreWithin l.met roles
   pub counts : t ≡ tallied l.met roles
+
+-- Behind these tokens another one stands, at this place.
+pub record IsStanding (text : List ℕ) (before : List Token) (at : ℕ) : Type 0 where
+  pub from : List ℕ
+  pub stands : StandsBehind text before from
+  pub is : at ≡ place_of text from
+
+-- And the tokens whose roles wait, which stand behind those whose roles are settled, stand at these places.
+pub record IsPlaced {V : Type 0} (l : Language V) (m : Reader) (text rest : List ℕ) (s : m.State) (t : Tally) (places : List ℕ) : Type 0 where
+  pub reading : IsReading l m text rest s t
+  pub each : length places ≡ length (m.pending s)
+  pub stand : (i at : ℕ) → slice_get places i ≡ Some at → IsStanding text (take (length reading.roles + i) reading.tokens) at
 
 -- the product line with these features, constraints and classes
 abbrev pub of_parts : List (List ℕ) → List Formula → List Class → ProductLine

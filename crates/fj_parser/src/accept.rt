@@ -1,15 +1,19 @@
-ghost use Rattle.std.specs.Prelude.{◌≡◌, true, None, IfOk, is_some};
-ghost use Rattle.fj_parser.specs.Accepting.{Outcome};
-ghost use Rattle.fj_parser.specs.Machine.{reader, step};
+ghost use Rattle.std.specs.Prelude.{◌≡◌, [], ◌∷◌, true, false, None, IfOk, is_some};
+ghost use Rattle.expression_reader.specs.Machine.{settled};
+ghost use Rattle.fj_parser.specs.Accepting.{AreCounted, Outcome, OwnOutcome};
+ghost use Rattle.fj_parser.specs.Machine.{pending, reader, role, step, waits};
 ghost use Rattle.fj_parser.specs.MachineViews.{machine_seen, IsRoomy};
-ghost use Rattle.fj_parser.specs.Readers.{misplaced_as};
+ghost use Rattle.fj_parser.specs.Readers.{misplaced_as, IsReached};
+ghost use Rattle.fj_parser.specs.Waiting.{waiting_places, waiting_roles, WaitedWithin};
 ghost use Rattle.fj_tally.specs.Views.{tally_seen};
 ghost use Rattle.fj_symbols.specs.Views.{is_read, symbol_seen};
 
 use crate::machine::Machine;
-use fj_tally::Tally;
+use crate::settle::settle;
+use crate::waiting::{Refusal, Waiting};
 use cfj_model::FaultKind;
 use fj_symbols::Symbol;
+use fj_tally::Tally;
 use std::alloc::{AllocError, Global};
 
 /// How a token that can't stand here is named.
@@ -29,6 +33,8 @@ fn goes<'a>(
     machine: &mut Machine<'a>,
     symbol: Symbol<'a>,
 ) -> Result<bool, AllocError>
+    requires read { is_read (symbol_seen symbol) ≡ true }
+    requires waited { WaitedWithin (machine_seen machine.old) (symbol_seen symbol) }
     requires room { IsRoomy (machine_seen machine.old) }
     ensures { IfOk result (λ goes. goes ≡ is_some (step (machine_seen machine.old) (symbol_seen symbol.entry))) }
 {
@@ -38,17 +44,19 @@ fn goes<'a>(
     }
 }
 
-/// Takes one token in; its fault, if it has one.
-pub fn accept<'a>(
+/// Goes on by a token that doesn't wait, and counts it; its fault, if it has one.
+fn take_settled<'a>(
     alloc: Global,
     machine: &mut Machine<'a>,
     tally: &mut Tally<'a>,
     symbol: Symbol<'a>,
 ) -> Result<Option<FaultKind>, AllocError>
     requires read { is_read (symbol_seen symbol) ≡ true }
+    requires settled { waits (machine_seen machine.old) (symbol_seen symbol) ≡ false }
+    requires waited { WaitedWithin (machine_seen machine.old) (symbol_seen symbol) }
     requires room { IsRoomy (machine_seen machine.old) }
-    ensures { IfOk result (Outcome reader
-        (machine_seen machine.old) (tally_seen tally.old) (symbol_seen symbol.entry) (machine_seen machine.new) (tally_seen tally.new)) }
+    ensures { IfOk result (OwnOutcome reader (machine_seen machine.old) (tally_seen tally.old)
+        (role (machine_seen machine.old) (symbol_seen symbol.entry)) (symbol_seen symbol.entry) (machine_seen machine.new) (tally_seen tally.new)) }
 {
     let role = machine.role(symbol);
     let takes_name = machine.takes_name();
@@ -63,5 +71,41 @@ pub fn accept<'a>(
         return Ok(Some(misplaced(takes_name, symbol)));
     }
     tally.count(role)?;
+    Ok(None)
+}
+
+/// Takes one token in, with what waited for it; the first fault, if there is one.
+pub fn accept<'a>(
+    alloc: Global,
+    machine: &mut Machine<'a>,
+    tally: &mut Tally<'a>,
+    waiting: &mut Waiting<'a>,
+    symbol: Symbol<'a>,
+    at: usize,
+) -> Result<Option<Refusal>, AllocError>
+    requires read { is_read (symbol_seen symbol) ≡ true }
+    requires waiting { waiting_roles waiting.old ≡ pending (machine_seen machine.old) }
+    requires reached { IsReached reader (machine_seen machine.old) }
+    requires room { IsRoomy (machine_seen machine.old) }
+    ensures { IfOk result (Outcome reader (machine_seen machine.old) (tally_seen tally.old) (waiting_places waiting.old)
+        (symbol_seen symbol.entry) at (machine_seen machine.new) (tally_seen tally.new) waiting.new) }
+{
+    // What waited stands before this token.
+    let settling = machine.settles(symbol);
+    if let Some(refusal) = settle(alloc, tally, *waiting, settling)? {
+        return Ok(Some(refusal));
+    }
+    let left = waiting.left(settling);
+    if machine.waits(symbol) {
+        // No token waits but one that can stand here.
+        let role = machine.role(symbol);
+        machine.step(alloc, symbol)?;
+        *waiting = left.with(role, at);
+        return Ok(None);
+    }
+    if let Some(kind) = take_settled(alloc, machine, tally, symbol)? {
+        return Ok(Some(Refusal { at, kind }));
+    }
+    *waiting = Waiting::Nothing;
     Ok(None)
 }

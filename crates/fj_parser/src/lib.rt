@@ -17,5 +17,7 @@ mod mode;
 mod params;
 mod parser;
 mod role;
+mod settle;
+mod waiting;
 
 pub use parser::parse_project;

@@ -1,34 +1,85 @@
-use Rattle.std.proofs.Common.{◌≡◌, Some, true, ◌∙◌, ap, sym, subst}
-use Rattle.cfj_model.specs.Roles.{broken_by}
-use Rattle.fj_symbols.specs.Views.{is_identifier_role, symbol_seen}
-use Rattle.fj_parser.specs.Readers.{misplaced_as}
-use Rattle.fj_parser.specs.Machine.{role}
+use Rattle.std.proofs.Common.{◌≡◌, Some, None, true, false, List, [], ◌∷◌, ◌++◌, ◌∙◌, ap, sym, subst}
+use Rattle.expression_reader.specs.Machine as expression
+use Rattle.fj_symbols.specs.Views.{is_identifier_role, role_seen, symbol_seen}
+use Rattle.fj_parser.specs.Machine.{pending, role, settles, step, waits}
 use Rattle.fj_parser.specs.MachineViews.{machine_seen}
+use Rattle.fj_parser.specs.Waiting.{may_wait, waiting_left, waiting_roles, waiting_places}
 use Rattle.fj_tally.specs.Views.{tally_seen}
-use Rattle.fj_parser.proofs.Accepted.{broken_refused, misplaced_refused, not_gone, cannot_go, role_named}
+use Rattle.fj_parser.specs.Accepting.{OwnOutcome}
+use Rattle.fj_parser.specs.Machine.{reader}
+use Rattle.fj_parser.proofs.Accepted.{gone, left_roles, settled_taken, settled_told, waited, waited_told, waited_within, waiting_taken, Waited}
+use Rattle.fj_parser.proofs.Behind.{left_shape, waits_goes, IsOnce}
+use Rattle.fj_parser.proofs.Law.{laws}
+use Rattle.fj_parser.proofs.Named.{role_named, waiting_fits}
 use Rattle.fj_parser.proofs.accept.accept.Goals as goal
-
-pub broken_by-requires : goal.broken_by-requires
-broken_by-requires c =
-    subst (λ r. is_identifier_role r ≡ true) (sym c.role-role.ensures) (role_named (machine_seen c.args.machine.now) (symbol_seen c.args.symbol) c.requires.read)
-
-pub returns-then-branch : goal.returns-then-branch
-returns-then-branch c =
-    let s = machine_seen c.args.machine.now in
-    let t = tally_seen c.args.tally.now in
-    let token = symbol_seen c.args.symbol in
-    let breaks : broken_by t (role s token) ≡ Some c.in-Some.broken =
-    ap (broken_by t) (sym c.role-role.ensures) ∙ sym c.in_ok-broken.ensures ∙ c.in-Some.is in
-    broken_refused s t token c.in-Some.broken (sym c.in_ok-goes.ensures ∙ c.if-branch.true) breaks
 
 pub returns-in-Some : goal.returns-in-Some
 returns-in-Some c =
-    let s = machine_seen c.args.machine.now in
-    let token = symbol_seen c.args.symbol in
-    misplaced_refused s (tally_seen c.args.tally.now) token c.misplaced.result (cannot_go s token (sym c.in_ok-goes.ensures ∙ c.if-branch.false)) (c.misplaced.ensures ∙ ap (λ b. misplaced_as b token) c.takes_name-takes_name.ensures)
+    waited_told (machine_seen c.args.machine.now) (tally_seen c.args.tally.now) c.args.waiting.now (symbol_seen c.args.symbol) c.args.at (tally_seen c.settle.new.tally) c.settles-settling.result c.in_ok-refusal.field-0 c.in-Some.refusal c.settles-settling.ensures c.in-Some.is c.requires.waiting c.in_ok-refusal.ensures
 
-pub returns-then-not-branch : goal.returns-then-not-branch
-returns-then-not-branch c =
+pub step-requires-clause-named : goal.step-requires-clause-named
+step-requires-clause-named c =
     let s = machine_seen c.args.machine.now in
     let token = symbol_seen c.args.symbol in
-    misplaced_refused s (tally_seen c.args.tally.now) token c.misplaced-then-not-branch.result (not_gone _ s _ token c.if-not-branch.true c.in_ok-step.ensures) (c.misplaced-then-not-branch.ensures ∙ ap (λ b. misplaced_as b token) c.takes_name-takes_name.ensures)
+    let h : Waited s (tally_seen c.args.tally.now) token (tally_seen c.settle.new.tally) =
+    waited s (tally_seen c.args.tally.now) c.args.waiting.now token (tally_seen c.settle.new.tally) c.settles-settling.result c.in_ok-refusal.field-0 c.settles-settling.ensures c.in_default.is c.requires.waiting c.in_ok-refusal.ensures in
+    let own : waits s token ≡ true = sym c.waits.ensures ∙ c.if-waits.true in
+    waiting_fits s token own (waited_within s (tally_seen c.args.tally.now) token (tally_seen c.settle.new.tally) h)
+
+pub with-requires-clause-shape : goal.with-requires-clause-shape
+with-requires-clause-shape c =
+    let s = machine_seen c.args.machine.now in
+    let token = symbol_seen c.args.symbol in
+    let own : waits s token ≡ true = sym c.waits.ensures ∙ c.if-waits.true in
+    let left : waiting_roles c.left-left.result ≡ expression.left (settles s token) (pending s) =
+    ap waiting_roles c.left-left.ensures ∙ left_roles c.settles-settling.result c.args.waiting.now ∙ ap (λ k. expression.left k (waiting_roles c.args.waiting.now)) c.settles-settling.ensures ∙ ap (expression.left (settles s token)) c.requires.waiting in
+    subst (λ rs. may_wait (rs ++ role_seen c.role-role.result ∷ []) ≡ true) (sym left)
+    (subst (λ r. may_wait (expression.left (settles s token) (pending s) ++ r ∷ []) ≡ true) (sym c.role-role.ensures) (left_shape s token own))
+
+pub with-requires-clause-named : goal.with-requires-clause-named
+with-requires-clause-named c =
+    subst (λ r. is_identifier_role r ≡ true) (sym c.role-role.ensures) (role_named (machine_seen c.args.machine.now) (symbol_seen c.args.symbol) c.requires.read)
+
+pub returns-then-waits : goal.returns-then-waits
+returns-then-waits c =
+    let s = machine_seen c.args.machine.now in
+    let n = machine_seen c.step.new.self in
+    let t = tally_seen c.args.tally.now in
+    let u = tally_seen c.settle.new.tally in
+    let w = c.args.waiting.now in
+    let token = symbol_seen c.args.symbol in
+    let h : Waited s t token u = waited s t w token u c.settles-settling.result c.in_ok-refusal.field-0 c.settles-settling.ensures c.in_default.is c.requires.waiting c.in_ok-refusal.ensures in
+    let own : waits s token ≡ true = sym c.waits.ensures ∙ c.if-waits.true in
+    let goes : step s token ≡ Some n = gone c.in_ok-step.field-0 s n token (waits_goes s token own) c.in_ok-step.ensures in
+    let once : IsOnce s n token = laws.each c.requires.reached.tokens s n c.requires.reached.roles token c.requires.reached.ran goes in
+    let left : c.left-left.result ≡ waiting_left (settles s token) w = c.left-left.ensures ∙ ap (λ k. waiting_left k w) c.settles-settling.ensures in
+    waiting_taken s n t u w c.with.result token c.args.at c.requires.waiting own goes once h
+    (c.with.ensures.roles ∙ ap (λ x. waiting_roles x ++ role_seen c.role-role.result ∷ []) left ∙ ap (λ r. waiting_roles (waiting_left (settles s token) w) ++ r ∷ []) c.role-role.ensures)
+    (c.with.ensures.places ∙ ap (λ x. waiting_places x ++ c.args.at ∷ []) left)
+
+pub returns-in-Some-2 : goal.returns-in-Some-2
+returns-in-Some-2 c =
+    let s = machine_seen c.args.machine.now in
+    let t = tally_seen c.args.tally.now in
+    let u = tally_seen c.settle.new.tally in
+    let w = c.args.waiting.now in
+    let token = symbol_seen c.args.symbol in
+    let h : Waited s t token u = waited s t w token u c.settles-settling.result c.in_ok-refusal.field-0 c.settles-settling.ensures c.in_default.is c.requires.waiting c.in_ok-refusal.ensures in
+    let own : waits s token ≡ false = sym c.waits.ensures ∙ c.if-waits.false in
+    settled_told s t u w token c.args.at c.in-Some-2.kind c.requires.waiting own h
+    (subst (OwnOutcome reader s u (role s token) token (machine_seen c.take_settled.new.machine) (tally_seen c.take_settled.new.tally)) c.in-Some-2.is c.in_ok-kind.ensures)
+
+pub returns : goal.returns
+returns c =
+    let s = machine_seen c.args.machine.now in
+    let n = machine_seen c.take_settled.new.machine in
+    let t = tally_seen c.args.tally.now in
+    let u = tally_seen c.settle.new.tally in
+    let v = tally_seen c.take_settled.new.tally in
+    let w = c.args.waiting.now in
+    let token = symbol_seen c.args.symbol in
+    let h : Waited s t token u = waited s t w token u c.settles-settling.result c.in_ok-refusal.field-0 c.settles-settling.ensures c.in_default.is c.requires.waiting c.in_ok-refusal.ensures in
+    let own : waits s token ≡ false = sym c.waits.ensures ∙ c.if-waits.false in
+    let taken : OwnOutcome reader s u (role s token) token n v None = subst (OwnOutcome reader s u (role s token) token n v) c.in_default-2.is c.in_ok-kind.ensures in
+    let once : IsOnce s n token = laws.each c.requires.reached.tokens s n c.requires.reached.roles token c.requires.reached.ran taken.goes in
+    settled_taken s n t u v w token c.args.at c.requires.waiting own once h taken

@@ -4,9 +4,8 @@ use Rattle.cfj_model.specs.declared.fault.FaultKind.TheVariants.{NotUtf8}
 use Rattle.cfj_model.specs.declared.fault.ParseFault.TheVariants.{At}
 use Rattle.std.specs.Str.{IsValidUpTo}
 use Rattle.fj_parser.specs.Reading.{of_parts}
-use Rattle.cfj_model.specs.Faults.{IsFirstFault, no_text}
+use Rattle.cfj_model.specs.Faults.{IsFirstFault, no_text, projects}
 use Rattle.cfj_model.specs.ProductLines.{IsProject}
-use Rattle.fj_parser.specs.Built.{built}
 use Rattle.fj_parser.proofs.TextsKept.{text_kept}
 use Rattle.fj_parser.proofs.parser.read_project.Goals as goal
 
@@ -18,10 +17,10 @@ same_kind a b k l e = cc e
 
 pub returns-in-Err-clause-fault : goal.returns-in-Err-clause-fault
 returns-in-Err-clause-fault c = λ at kind e.
-    let first : IsFirstFault built c.args.text.now c.valid_up_to.result NotUtf8 =
+    let first : IsFirstFault projects c.args.text.now c.valid_up_to.result NotUtf8 =
     no_text c.valid_up_to.result c.in-Err.ensures.cases.0 (subst (IsValidUpTo c.args.text.now) (sym c.valid_up_to.ensures) c.in-Err.ensures.cases.1) in
     let told : At c.valid_up_to.result NotUtf8 ≡ At at kind = cc e in
-    subst (λ x. IsFirstFault built c.args.text.now x kind) (same_place _ _ _ _ told) (subst (λ x. IsFirstFault built c.args.text.now c.valid_up_to.result x) (same_kind _ _ _ _ told) first)
+    subst (λ x. IsFirstFault projects c.args.text.now x kind) (same_place _ _ _ _ told) (subst (λ x. IsFirstFault projects c.args.text.now c.valid_up_to.result x) (same_kind _ _ _ _ told) first)
 
 pub of-requires : goal.of-requires
 of-requires c =

@@ -1,15 +1,17 @@
 use Rattle.std.proofs.Common.{◌≡◌, length}
-use Rattle.fj_parser.specs.Built.{built}
+use Rattle.cfj_model.specs.Faults.{projects}
 use Rattle.fj_parser.specs.Counting.{Counted}
-use Rattle.fj_parser.specs.Machine.{reader}
+use Rattle.fj_parser.specs.Machine.{pending, reader}
 use Rattle.fj_parser.specs.MachineViews.{machine_seen}
-use Rattle.fj_parser.specs.Reading.{IsReading}
+use Rattle.fj_parser.specs.Reading.{IsPlaced}
+use Rattle.fj_parser.specs.Waiting.{waiting_places, waiting_roles}
 use Rattle.fj_tally.specs.Views.{tally_seen}
 use Rattle.fj_parser.proofs.parser.read_tokens.Given as goal
 
 abbrev pub invariant-tokens : goal.invariant-tokens
 invariant-tokens l = record {
-  reading : IsReading built reader l.fn.lexer.text.now l.lexer.rest.now (machine_seen l.machine) (tally_seen l.tally);
+  placed : IsPlaced projects reader l.fn.lexer.text.now l.lexer.rest.now (machine_seen l.machine) (tally_seen l.tally) (waiting_places l.waiting);
+  waits : waiting_roles l.waiting ≡ pending (machine_seen l.machine);
   counted : Counted (machine_seen l.machine) (tally_seen l.tally);
   whole : l.lexer.text.now ≡ l.fn.lexer.text.now;
 }

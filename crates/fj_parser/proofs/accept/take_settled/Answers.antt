@@ -1,0 +1,43 @@
+use Rattle.std.proofs.Common.{◌≡◌, Some, None, true, ◌∙◌, ap, sym, subst}
+use Rattle.cfj_model.specs.Roles.{broken_by}
+use Rattle.fj_symbols.specs.Views.{is_identifier_role, symbol_seen}
+use Rattle.fj_parser.specs.Readers.{misplaced_as}
+use Rattle.fj_parser.specs.Machine.{role}
+use Rattle.fj_parser.specs.MachineViews.{machine_seen}
+use Rattle.fj_tally.specs.Views.{tally_seen}
+use Rattle.fj_parser.proofs.Accepted.{own_broken, own_stuck, not_gone, cannot_go}
+use Rattle.fj_parser.proofs.Named.{names_fit, role_named}
+use Rattle.fj_parser.proofs.accept.take_settled.Goals as goal
+
+pub broken_by-requires : goal.broken_by-requires
+broken_by-requires c =
+    subst (λ r. is_identifier_role r ≡ true) (sym c.role-role.ensures) (role_named (machine_seen c.args.machine.now) (symbol_seen c.args.symbol) c.requires.read)
+
+pub returns-then-branch : goal.returns-then-branch
+returns-then-branch c =
+    let s = machine_seen c.args.machine.now in
+    let t = tally_seen c.args.tally.now in
+    let token = symbol_seen c.args.symbol in
+    let breaks : broken_by t (role s token) ≡ Some c.in-Some.broken =
+    ap (broken_by t) (sym c.role-role.ensures) ∙ sym c.in_ok-broken.ensures ∙ c.in-Some.is in
+    own_broken s t token c.in-Some.broken (sym c.in_ok-goes.ensures ∙ c.if-branch.true) breaks
+
+pub returns-in-Some : goal.returns-in-Some
+returns-in-Some c =
+    let s = machine_seen c.args.machine.now in
+    let token = symbol_seen c.args.symbol in
+    own_stuck s (tally_seen c.args.tally.now) token c.misplaced.result (cannot_go s token (sym c.in_ok-goes.ensures ∙ c.if-branch.false)) (c.misplaced.ensures ∙ ap (λ b. misplaced_as b token) c.takes_name-takes_name.ensures)
+
+pub step-requires-clause-named : goal.step-requires-clause-named
+step-requires-clause-named c =
+    let s = machine_seen c.args.machine.now in
+    let t = tally_seen c.args.tally.now in
+    let token = symbol_seen c.args.symbol in
+    let fine : broken_by t (role s token) ≡ None = ap (broken_by t) (sym c.role-role.ensures) ∙ sym c.in_ok-broken.ensures ∙ c.in_default.is in
+    names_fit s token t c.requires.read c.requires.waited fine
+
+pub returns-then-not-branch : goal.returns-then-not-branch
+returns-then-not-branch c =
+    let s = machine_seen c.args.machine.now in
+    let token = symbol_seen c.args.symbol in
+    own_stuck s (tally_seen c.args.tally.now) token c.misplaced-then-not-branch.result (not_gone _ s _ token c.if-not-branch.true c.in_ok-step.ensures) (c.misplaced-then-not-branch.ensures ∙ ap (λ b. misplaced_as b token) c.takes_name-takes_name.ensures)

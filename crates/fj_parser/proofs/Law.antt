@@ -139,7 +139,7 @@ closes_front front s rs h =
 -- ---- what waits is settled first
 
 -- more roles behind those that begin so
-begun_on : (waiting own others rs : List Role) → rs ≡ own ++ others → Begun waiting own → Settles waiting rs
+pub begun_on : (waiting own others rs : List Role) → rs ≡ own ++ others → Begun waiting own → Settles waiting rs
 begun_on waiting own others rs all (as_waited more e) = alike (more ++ others) (all ∙ ap (λ q. q ++ others) e ∙ append_assoc waiting more others)
 begun_on waiting own others rs all (as_a_cast d more e some few) = as_cast d (more ++ others) (all ∙ ap (λ q. q ++ others) e) some few
 

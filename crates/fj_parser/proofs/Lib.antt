@@ -5,6 +5,7 @@ pub mod Counted
 pub mod Exact
 pub mod Expressions
 pub mod FirstFault
+pub mod GoalRuns
 pub mod Kept
 pub mod KeptMembers
 pub mod KeptNames
@@ -13,6 +14,7 @@ pub mod LexedTokens
 pub mod ListsSound
 pub mod MembersSound
 pub mod MethodsSound
+pub mod NameLaw
 pub mod Naming
 pub mod Progress
 pub mod Readers

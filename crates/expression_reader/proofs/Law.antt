@@ -186,9 +186,23 @@ after_completes fs (InBracket ∷ frames) x n = after_completes fs frames x n
 after_completes fs (InCast s c ∷ frames) x n = ap (λ (p : Run). is_read_whole p.0) (cast_ends fs (closing frames) (ends_closing frames) s c frames x n) ∙ after_completes fs frames (e.Cast s c x) n
 after_completes fs (InArgs h before colors ∷ frames) x n = after_completes fs frames (applied h (before ++ colored_arg colors x ∷ [])) n
 
--- tokens with which a text can end from a state, where what waits is a bracket's
+-- no token begins a mark
+abbrev pub are_unmarked : List Token → Bool
+are_unmarked [] = true
+are_unmarked (At ∷ ts) = false
+are_unmarked (_ ∷ ts) = are_unmarked ts
+
+closing_unmarked : (frames : List Frame) → are_unmarked (closing frames) ≡ true
+unfolding closing
+closing_unmarked [] = refl
+closing_unmarked (InBracket ∷ frames) = closing_unmarked frames
+closing_unmarked (InCast s c ∷ frames) = closing_unmarked frames
+closing_unmarked (InArgs h before colors ∷ frames) = closing_unmarked frames
+
+-- tokens without marks with which a text can end from a state, where what waits is a bracket's
 record Completes (fs : List (List ℕ)) (s : State) : Type 0 where
   more : List Token
+  unmarked : are_unmarked more ≡ true
   others : List Role
   goes : Accepts fs more s
   in_roles : (run fs more s).1 ≡ pending s ++ others
@@ -206,28 +220,30 @@ member_completes fs w frames x n = ap (λ (p : Run). is_read_whole p.0) (member_
 
 completes : (fs : List (List ℕ)) (m : Mode) (frames : List Frame) (n : ℕ) → Completes fs (at frames m n)
 unfolding run
-completes fs Begin frames n = record { more = Id [] ∷ closing frames; others = _; goes = after_completes fs frames (e.Var n []) (n + 1); in_roles = refl }
-completes fs (FirstArg h) frames n = record { more = CloseParen ∷ closing frames; others = _; goes = after_completes fs frames (applied h []) n; in_roles = refl }
-completes fs (InMarks h before colors) frames n = record { more = Id [] ∷ (CloseParen ∷ closing frames); others = _; goes = after_completes fs frames (applied h (before ++ colored_arg colors (e.Var n []) ∷ [])) (n + 1); in_roles = refl }
-completes fs (AfterAt h before colors) frames n = record { more = Id [] ∷ (Id [] ∷ (CloseParen ∷ closing frames)); others = _; goes = after_completes fs frames (applied h (before ++ colored_arg (bit_or colors (color_of fs [])) (e.Var n []) ∷ [])) (n + 1); in_roles = refl }
-completes fs Paren frames n = record { more = Id [] ∷ (CloseParen ∷ closing frames); others = _; goes = closed_completes fs [] frames n; in_roles = closed_roles fs [] frames n }
-completes fs (ParenName w) frames n = record { more = CloseParen ∷ closing frames; others = _; goes = closed_completes fs w frames n; in_roles = closed_roles fs w frames n }
-completes fs (ParenClosed w) frames n = record { more = closing frames; others = _; goes = closed_completes fs w frames n; in_roles = closed_roles fs w frames n }
-completes fs (After x) frames n = record { more = closing frames; others = _; goes = after_completes fs frames x n; in_roles = refl }
-completes fs (AfterDot x) frames n = record { more = Id [] ∷ closing frames; others = _; goes = member_completes fs [] frames x n; in_roles = refl }
-completes fs (AfterMember x w) frames n = record { more = closing frames; others = _; goes = member_completes fs w frames x n; in_roles = refl }
-completes fs AfterNew frames n = record { more = Id [] ∷ (OpenParen ∷ (CloseParen ∷ closing frames)); others = _; goes = after_completes fs frames (e.New n [] []) (n + 1); in_roles = refl }
-completes fs (AfterClass c) frames n = record { more = OpenParen ∷ (CloseParen ∷ closing frames); others = _; goes = after_completes fs frames (e.New n c []) (n + 1); in_roles = refl }
-completes fs (Done x) frames n = record { more = []; others = []; goes = refl; in_roles = refl }
+completes fs Begin frames n = record { more = Id [] ∷ closing frames; unmarked = closing_unmarked frames; others = _; goes = after_completes fs frames (e.Var n []) (n + 1); in_roles = refl }
+completes fs (FirstArg h) frames n = record { more = CloseParen ∷ closing frames; unmarked = closing_unmarked frames; others = _; goes = after_completes fs frames (applied h []) n; in_roles = refl }
+completes fs (InMarks h before colors) frames n = record { more = Id [] ∷ (CloseParen ∷ closing frames); unmarked = closing_unmarked frames; others = _; goes = after_completes fs frames (applied h (before ++ colored_arg colors (e.Var n []) ∷ [])) (n + 1); in_roles = refl }
+completes fs (AfterAt h before colors) frames n = record { more = Id [] ∷ (Id [] ∷ (CloseParen ∷ closing frames)); unmarked = closing_unmarked frames; others = _; goes = after_completes fs frames (applied h (before ++ colored_arg (bit_or colors (color_of fs [])) (e.Var n []) ∷ [])) (n + 1); in_roles = refl }
+completes fs Paren frames n = record { more = Id [] ∷ (CloseParen ∷ closing frames); unmarked = closing_unmarked frames; others = _; goes = closed_completes fs [] frames n; in_roles = closed_roles fs [] frames n }
+completes fs (ParenName w) frames n = record { more = CloseParen ∷ closing frames; unmarked = closing_unmarked frames; others = _; goes = closed_completes fs w frames n; in_roles = closed_roles fs w frames n }
+completes fs (ParenClosed w) frames n = record { more = closing frames; unmarked = closing_unmarked frames; others = _; goes = closed_completes fs w frames n; in_roles = closed_roles fs w frames n }
+completes fs (After x) frames n = record { more = closing frames; unmarked = closing_unmarked frames; others = _; goes = after_completes fs frames x n; in_roles = refl }
+completes fs (AfterDot x) frames n = record { more = Id [] ∷ closing frames; unmarked = closing_unmarked frames; others = _; goes = member_completes fs [] frames x n; in_roles = refl }
+completes fs (AfterMember x w) frames n = record { more = closing frames; unmarked = closing_unmarked frames; others = _; goes = member_completes fs w frames x n; in_roles = refl }
+completes fs AfterNew frames n = record { more = Id [] ∷ (OpenParen ∷ (CloseParen ∷ closing frames)); unmarked = closing_unmarked frames; others = _; goes = after_completes fs frames (e.New n [] []) (n + 1); in_roles = refl }
+completes fs (AfterClass c) frames n = record { more = OpenParen ∷ (CloseParen ∷ closing frames); unmarked = closing_unmarked frames; others = _; goes = after_completes fs frames (e.New n c []) (n + 1); in_roles = refl }
+completes fs (Done x) frames n = record { more = []; unmarked = refl; others = []; goes = refl; in_roles = refl }
 
 -- ---- what is read begins a text
 
--- what the machine has read begins a text, in the roles that it gave, and those of the tokens that wait
-pub reads_begin : (fs : List (List ℕ)) (front : List Token) (s : State) (rs : List Role) → run fs front start ≡ (Some s, rs) → Begins front (rs ++ pending s)
-reads_begin fs front s rs h =
+-- What the machine has read begins a text, in the roles that it gave, and those of the tokens that wait; and no more marks need
+-- to follow.
+pub reads_unmarked : (fs : List (List ℕ)) (front : List Token) (s : State) (rs : List Role) → run fs front start ≡ (Some s, rs) → (b : Begins front (rs ++ pending s)) × (are_unmarked b.more ≡ true)
+reads_unmarked fs front s rs h =
     let c = completes fs s.mode s.frames s.slot in
     let all : run fs (front ++ c.more) start ≡ with_roles rs (run fs c.more s) = run_append fs front c.more start ∙ ap (on_from fs c.more) h in
     let t = text_of fs (front ++ c.more) (ap (λ (p : Run). is_read_whole p.0) all ∙ c.goes) in
+    let b : Begins front (rs ++ pending s) =
     record {
       tree = t.0;
       more = c.more;
@@ -235,7 +251,11 @@ reads_begin fs front s rs h =
       text = sym t.1;
       in_roles = ap (λ (p : Run). p.1) (sym (text_runs fs t.0) ∙ ap (λ w. run fs w start) (sym t.1) ∙ all) ∙ ap (λ (q : List Role). rs ++ q) c.in_roles ∙ sym (append_assoc rs (pending s) c.others);
       each = length-append rs (pending s) ∙ read_long fs front s rs h;
-    }
+    } in
+    (b, c.unmarked)
+
+pub reads_begin : (fs : List (List ℕ)) (front : List Token) (s : State) (rs : List Role) → run fs front start ≡ (Some s, rs) → Begins front (rs ++ pending s)
+reads_begin fs front s rs h = (reads_unmarked fs front s rs h).0
 
 -- ---- where the machine is stuck, no text goes on
 

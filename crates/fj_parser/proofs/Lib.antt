@@ -3,6 +3,7 @@ pub mod Closing
 pub mod Complete
 pub mod Counted
 pub mod Exact
+pub mod ExpressionLaw
 pub mod Expressions
 pub mod FirstFault
 pub mod GoalRuns
@@ -24,3 +25,4 @@ pub mod Standing
 pub mod Texts
 pub mod TextsKept
 pub mod TokenReads
+pub mod Unmarked

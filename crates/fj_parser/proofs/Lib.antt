@@ -15,6 +15,7 @@ pub mod LexedTokens
 pub mod ListsSound
 pub mod MembersSound
 pub mod MethodsSound
+pub mod ModelLaw
 pub mod NameLaw
 pub mod Naming
 pub mod Progress

@@ -1,7 +1,7 @@
 -- The laws of the machine where it reads an expression without marks. The end of the text takes the part of the `;`.
 use Rattle.std.proofs.Common.{◌≡◌, ℕ, suc, ◌+◌, Bool, true, false, List, [], ◌∷◌, ◌++◌, length, Option, Some, None, refl, sym, ◌∙◌, ap, subst, append_assoc, ◌⊎◌, inl, inr}
 use Rattle.std.proofs.lemmas.Bool.{and_parts, and_from}
-use Rattle.std.proofs.lemmas.List.{append-nil}
+use Rattle.std.proofs.lemmas.List.{append-nil, append_cancel_right}
 use Rattle.std.proofs.lemmas.Option.{none-some, same_Some}
 use Rattle.cfj_model.specs.declared.class.Method.{Method}
 use Rattle.cfj_model.specs.declared.expr.Expr.{Expr}
@@ -195,7 +195,7 @@ complete x =
 
 -- ---- what is read to the end is a text
 
--- lists that end alike are alike
+-- A list that begins so ends with its last token, unless the front is all of it.
 last_split : (us front more : List Token) (t : Token) → us ++ t ∷ [] ≡ front ++ more → (more ≡ []) ⊎ ((own : List Token) × (more ≡ own ++ t ∷ []) × (us ≡ front ++ own))
 last_split us [] more t h = inr (us, sym h, refl)
 last_split [] (f ∷ front) more t h =
@@ -214,29 +214,11 @@ last_split (u ∷ us) (f ∷ front) more t h =
     by same (inl e) = inl e
     by same (inr (own, e, k)) = inr (own, e, cc (same, k))
 
-same_before : (a b : List Token) (t : Token) → a ++ t ∷ [] ≡ b ++ t ∷ [] → a ≡ b
-same_before [] [] t h = refl
-same_before [] (y ∷ b) t h = absurd (longer b (let rest : [] ≡ b ++ t ∷ [] = cc h in rest))
-  where
-    longer : (b : List Token) → [] ≡ b ++ t ∷ [] → ⊥
-    longer [] e = let no : ⊥ = cc e in no
-    longer (y ∷ b) e = let no : ⊥ = cc e in no
-same_before (x ∷ a) [] t h = absurd (longer a (let rest : [] ≡ a ++ t ∷ [] = cc h in rest))
-  where
-    longer : (b : List Token) → [] ≡ b ++ t ∷ [] → ⊥
-    longer [] e = let no : ⊥ = cc e in no
-    longer (y ∷ b) e = let no : ⊥ = cc e in no
-same_before (x ∷ a) (y ∷ b) t h =
-    let same : x ≡ y = cc h in
-    let rest : a ++ t ∷ [] ≡ b ++ t ∷ [] = cc h in
-    let on : a ≡ b = same_before a b t rest in
-    cc (same, on)
-
 -- tokens without marks that are read to the end are a tree's
 whole_tree : (us : List Token) (m : expression.State) (rs : List Role) → are_inner us ≡ true → expression.run [] (us ++ Semicolon ∷ []) expression.start ≡ (Some m, rs) → expression.is_done m ≡ true → (x : UnmarkedTree) × (us ≡ spell_expr x.tree [])
 whole_tree us m rs i ran whole =
     let t = expression_sound.text_of [] (us ++ Semicolon ∷ []) (ap (λ (p : expression.Run). expression.is_read_whole p.0) ran ∙ whole) in
-    let is : us ≡ spell_expr t.0 [] = same_before us (spell_expr t.0 []) Semicolon (t.1 ∙ text_with t.0 Semicolon) in
+    let is : us ≡ spell_expr t.0 [] = append_cancel_right us (spell_expr t.0 []) (Semicolon ∷ []) (t.1 ∙ text_with t.0 Semicolon) in
     let plain_us : are_unmarked us ≡ true = ap are_unmarked (sym (append-nil us)) ∙ inner_unmarked us [] i refl in
     (record { tree = t.0; unmarked = is_unmarked t.0 [] (ap are_unmarked (sym is) ∙ plain_us) }, is)
 

@@ -15,11 +15,11 @@ use Rattle.expression_reader.specs.declared.frame.Frame.{Frame}
 use Rattle.expression_reader.specs.declared.mode.Mode as expression_mode
 use Rattle.expression_reader.specs.declared.mode.Mode.TheVariants as expression_variant
 use Rattle.expression_reader.proofs.Complete as expression_complete
+use Rattle.expression_reader.proofs.Completing.{are_unmarked}
 use Rattle.expression_reader.proofs.Composing.{spell_before, roles_before, roles_settled}
 use Rattle.expression_reader.proofs.Counting.{read_settled}
 use Rattle.expression_reader.proofs.Finishing.{has_expression, waited_first}
 use Rattle.expression_reader.proofs.Law as expression_law
-use Rattle.expression_reader.proofs.Law.{are_unmarked, reads_unmarked}
 use Rattle.expression_reader.proofs.Sound as expression_sound
 use Rattle.fj_parser.specs.Goals.{start_for, step_for, takes_name_for, reader_for}
 use Rattle.fj_parser.specs.Languages.{UnmarkedTree, expressions}
@@ -264,7 +264,7 @@ whole_roles x us m rs is ran =
     ap (λ (p : expression.Run). p.1) (sym (expression_complete.text_runs [] x) ∙ ap (λ w. expression.run [] w expression.start) (text_with x Semicolon ∙ ap (λ q. q ++ Semicolon ∷ []) (sym is)) ∙ ran)
 
 closes : (ts : List Token) (s : State) (rs : List Role) → Read first expression.start ts s rs → Closes expressions ts rs (pending s)
-closes _ _ _ (inside ts m rs i ran on) = let b = reads_unmarked [] ts m rs ran in inside_closes ts m rs i b.0 b.1
+closes _ _ _ (inside ts m rs i ran on) = let b = expression_law.reads_unmarked [] ts m rs ran in inside_closes ts m rs i b.0 b.1
 closes _ _ _ (at_end us m x rs i ran whole) =
     let t = whole_tree us m rs i ran (whole_done m x whole) in
     record {

@@ -46,7 +46,7 @@ not_at_end [] (x ∷ xs) [] e = absurd (let no : ⊥ = cc e in no)
 not_at_end fs xs (k ∷ ks) e = absurd (let no : ⊥ = cc e in no)
 
 -- tokens that lead to the end
-closed_text : (ts : List Token) → Reaches AtEnd (run ts start).0 → (x : Tree) × (ts ≡ spell x (End ∷ []))
+pub closed_text : (ts : List Token) → Reaches AtEnd (run ts start).0 → (x : Tree) × (ts ≡ spell x (End ∷ []))
 closed_text ts h = let t = text_of ts (reach_stops AtEnd (run ts start).0 refl h) in go t.tree t.rest t.tail t.spelled
   where
     go : (x : Tree) (rest : List Token) → Tail rest → ts ≡ spell x rest → (x : Tree) × (ts ≡ spell x (End ∷ []))
@@ -139,7 +139,7 @@ closes_front front s rs h =
 -- ---- what waits is settled first
 
 -- more roles behind those that begin so
-begun_on : (waiting own others rs : List Role) → rs ≡ own ++ others → Begun waiting own → Settles waiting rs
+pub begun_on : (waiting own others rs : List Role) → rs ≡ own ++ others → Begun waiting own → Settles waiting rs
 begun_on waiting own others rs all (as_waited more e) = alike (more ++ others) (all ∙ ap (λ q. q ++ others) e ∙ append_assoc waiting more others)
 begun_on waiting own others rs all (as_a_cast d more e some few) = as_cast d (more ++ others) (all ∙ ap (λ q. q ++ others) e) some few
 
@@ -153,7 +153,7 @@ body_settles ts s x rs h =
     let whole : run (r.us ++ r.rest) (in_body s s.expression) ≡ with_roles own (run r.rest (with_method s r.value)) = expression_runs s s.expression r.last r.us own r.value (read_goes ts s s.expression stops) ran r.whole r.rest in
     begun_on (expression.pending s.expression) own (run r.rest (with_method s r.value)).1 rs (ap (λ (p : Run State). p.1) (sym h ∙ ap (λ w. run w (in_body s s.expression)) r.split ∙ whole)) (waited_first s.features r.us s.expression r.last own ran (whole_done r.last r.value r.whole))
 
-settles : (ts : List Token) (s : State) (x : Tree) (rs : List Role) → run ts s ≡ (Some (ended x), rs) → Settles (pending s) rs
+pub settles : (ts : List Token) (s : State) (x : Tree) (rs : List Role) → run ts s ≡ (Some (ended x), rs) → Settles (pending s) rs
 settles ts s x rs h = by s.mode refl
   where
     by : (m : Mode) → s.mode ≡ m → Settles (pending_in m s) rs

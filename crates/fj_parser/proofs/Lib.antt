@@ -5,8 +5,10 @@ pub mod Complete
 pub mod Counted
 pub mod CountedRoles
 pub mod Exact
+pub mod ExpressionLaw
 pub mod Expressions
 pub mod FirstFault
+pub mod GoalRuns
 pub mod Kept
 pub mod KeptMembers
 pub mod KeptNames
@@ -16,6 +18,8 @@ pub mod ListsSound
 pub mod MembersSound
 pub mod MethodsSound
 pub mod Named
+pub mod ModelLaw
+pub mod NameLaw
 pub mod Naming
 pub mod Places
 pub mod Progress
@@ -26,3 +30,4 @@ pub mod Standing
 pub mod Texts
 pub mod TextsKept
 pub mod TokenReads
+pub mod Unmarked

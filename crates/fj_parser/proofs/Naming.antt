@@ -29,11 +29,11 @@ last_holds true = refl
 last_holds false = refl
 
 -- some identifier
-some_name : List ℕ
+pub some_name : List ℕ
 some_name = codes "$"
 
 -- it is one, whatever Unicode says of other characters
-some_name_is : is_identifier some_name ≡ true
+pub some_name_is : is_identifier some_name ≡ true
 unfolding is_identifier is_reserved is_utf8 some_name chars encode
 some_name_is = search last_holds
 

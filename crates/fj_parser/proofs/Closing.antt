@@ -21,6 +21,7 @@ use Rattle.fj_parser.specs.Machine.{unnamed, State, with_field, with_method, pen
 use Rattle.fj_parser.specs.Readers.{Run, with_roles, then_run, run_of}
 use Rattle.fj_parser.proofs.Complete.{same_name, formula_runs}
 use Rattle.fj_parser.proofs.Expressions.{in_body, expression_runs, rest_reads}
+use Rattle.fj_parser.proofs.ListsSound.{never}
 use Rattle.fj_parser.proofs.Standing.{is_declaring, BodyRead, Holds, no_body, declaring_waits}
 
 -- a mode is reached
@@ -31,7 +32,7 @@ Reaches m (Some n) = n.mode ≡ m
 -- a test that holds lets the run go on
 let_through : (b : Bool) (f : State → Run State) (rs : List Role) (n : State) → b ≡ true → Reaches AtEnd (f n).0 → Reaches AtEnd (then_run f rs (if b then Some n else None)).0
 let_through true f rs n e h = h
-let_through false f rs n e h = absurd (let no : ⊥ = cc e in no)
+let_through false f rs n e h = never e
 
 -- The shortest ends of a text: from the methods, from the assignments, from the second name of one, from the sent names, from a
 -- body, from the parameters before it, from a class's constructor, and from the name of its superclass.
@@ -150,8 +151,8 @@ marked_closes node.Assign s = refl
 -- each state outside of formulas and expressions is completed by its closing
 closes : (m : Mode) (s : State) → is_declaring m ≡ true → Reaches AtEnd (run (closing m s) (in_mode m s)).0
 unfolding run_of closing parent_end ctor_end params_end body_end sends_end method_end second_end assigns_end methods_end
-closes InConstraint s e = absurd (let no : ⊥ = cc e in no)
-closes InExpression s e = absurd (let no : ⊥ = cc e in no)
+closes InConstraint s e = never e
+closes InExpression s e = never e
 closes (AfterAt n) s e = marked_closes n (record s { colors = bit_or s.colors (color_of s.features []) })
 closes (AfterMark n) s e = marked_closes n s
 closes AfterMarkedType s e = ctor_closes (with_field (record (in_mode InMembers s) { last = [] }))
@@ -226,7 +227,7 @@ ending m s rs undone h = go (is_declaring m) refl
     hosted : (m : Mode) → is_declaring m ≡ false → Holds m s rs → Ending (record s { mode = m })
     hosted InConstraint e k = formula_closes s undone
     hosted InExpression e k = expression_closes s rs k
-    hosted _ e k = absurd (let no : ⊥ = cc e in no)
+    hosted _ e k = never (sym e)
 
     go : (b : Bool) → is_declaring m ≡ b → Ending (record s { mode = m })
     go true e =

@@ -12,7 +12,7 @@ use Rattle.formula_reader.specs.declared.mode.Mode.TheVariants.{Want, After, Don
 use Rattle.expression_reader.specs.Machine as expression
 use Rattle.expression_reader.specs.declared.mode.Mode as expression_mode
 use Rattle.expression_reader.specs.declared.mode.Mode.TheVariants as expression_variant
-use Rattle.expression_reader.proofs.Waiting.{Begun, as_waited, as_a_cast, waited_first}
+use Rattle.expression_reader.proofs.Finishing.{Begun, as_waited, as_a_cast, waited_first}
 use Rattle.fj_parser.specs.Laws.{Settles, alike, as_cast, Closes, Reads}
 use Rattle.fj_parser.specs.declared.mode.Owner.TheVariants as owner
 use Rattle.fj_parser.specs.declared.mode.Node.TheVariants as node

@@ -21,6 +21,7 @@ use Rattle.fj_parser.specs.declared.mode.Mode.{Mode}
 use Rattle.fj_parser.specs.declared.mode.Mode.TheVariants.{Begin, AfterFeatures, AfterFeature, AfterFeatureComma, Start, InConstraint, BetweenClasses, AfterAt, AfterMark, AfterMarkedType, AfterClass, AfterClassName, AfterExtends, AfterParent, InMembers, AfterType, AfterFieldName, InParams, AfterParamComma, AfterParamType, AfterParam, AfterParams, InBody, AfterSuper, InSends, AfterSendComma, AfterSend, AfterSends, InAssigns, AfterThis, AfterThisDot, AfterAssigned, AfterEquals, AfterSecondName, InMethods, AfterResult, AfterMethodName, InMethodBody, InExpression, AfterBody}
 use Rattle.fj_parser.specs.Machine.{unnamed, State, start, with_method, after_formula, in_formula, after_expression, in_expression, opens_constraint, step_in, step, token_role, role_in, pending_in, pending, settles_in, waits_in, emitted, run}
 use Rattle.fj_parser.specs.Readers.{Run, then_run, run_of}
+use Rattle.fj_parser.proofs.ListsSound.{never}
 use Rattle.fj_parser.proofs.Sound.{none_undone}
 
 -- ---- the modes outside of formulas and expressions
@@ -29,10 +30,6 @@ abbrev pub is_declaring : Mode → Bool
 is_declaring InConstraint = false
 is_declaring InExpression = false
 is_declaring _ = true
-
--- false isn't true
-no_case : {A : Type 0} → false ≡ true → A
-no_case e = absurd (let no : ⊥ = cc e in no)
 
 -- The same formula and the same expression are in hand behind a step, if there is one.
 abbrev Alike : State → Option State → Type 0
@@ -49,8 +46,8 @@ alike_either false s n o h k = k
 
 -- a token outside of them leaves both as they are
 alike_step : (m : Mode) (s : State) (t : Token) → is_declaring m ≡ true → Alike s (step_in m s t)
-alike_step InConstraint s t e = no_case e
-alike_step InExpression s t e = no_case e
+alike_step InConstraint s t e = never e
+alike_step InExpression s t e = never e
 alike_step Begin s (Id w) e = alike_either (bytes_eq w features_word) s (record s { mode = AfterFeatures }) (opens_constraint s w) (refl, refl) (alike_if (bytes_eq w constraint_word) s (record s { mode = InConstraint }) (refl, refl))
 alike_step Begin s At e = (refl, refl)
 alike_step Begin s ClassWord e = (refl, refl)
@@ -132,12 +129,12 @@ emitted_in m s t = expression.settled (settles_in m s t) (pending_in m s) ++ exp
 
 -- outside of them that is its own, and none waits
 pub declaring_emits : (m : Mode) (s : State) (t : Token) → is_declaring m ≡ true → emitted_in m s t ≡ token_role m t ∷ []
-declaring_emits InConstraint s t e = no_case e
-declaring_emits InExpression s t e = no_case e
+declaring_emits InConstraint s t e = never e
+declaring_emits InExpression s t e = never e
 declaring_emits _ s t e = refl
 
 pub declaring_waits : (m : Mode) (s : State) → is_declaring m ≡ true → pending_in m s ≡ []
-declaring_waits InExpression s e = no_case e
+declaring_waits InExpression s e = never e
 declaring_waits _ s e = refl
 
 -- ---- settled roles
@@ -210,7 +207,7 @@ pub record Stands (s : State) (rs : List Role) : Type 0 where
 
 -- outside of an expression nothing of one is in hand
 pub no_body : (m : Mode) (s : State) (rs : List Role) → is_declaring m ≡ true → Holds m s rs → NoBody s rs
-no_body InExpression s rs e h = no_case e
+no_body InExpression s rs e h = never e
 no_body _ s rs e h = h
 
 -- an expression begins
@@ -357,7 +354,7 @@ stands_step s t rs h = by (is_declaring s.mode) refl
     hosted : (m : Mode) → s.mode ≡ m → is_declaring m ≡ false → Holds m s rs → StandsIn (step_in m s t) (rs ++ emitted_in m s t)
     hosted InConstraint here e k = formula_stands s t rs (formula.step s.features s.formula t) k
     hosted InExpression here e k = expression_stands s t rs here h.formula_goes (expression.step s.features s.expression t) refl k
-    hosted _ here e k = no_case (sym e)
+    hosted _ here e k = never (sym e)
 
     by : (b : Bool) → is_declaring s.mode ≡ b → StandsIn (step s t) (rs ++ emitted s t)
     by true e = declaring_stands s.mode s t rs e h.formula_goes (no_body s.mode s rs e h.holds)
@@ -378,7 +375,7 @@ each_once s n t rs h goes = by (is_declaring s.mode) refl
     hosted : (m : Mode) → s.mode ≡ m → is_declaring m ≡ false → Holds m s rs → step_in m s t ≡ Some n → length (emitted_in m s t) + length (pending n) ≡ suc (length (pending_in m s))
     hosted InConstraint here e k g = formula_once s n t (formula.step s.features s.formula t) k.none g
     hosted InExpression here e k g = expression_once s n t here (expression.step s.features s.expression t) refl g
-    hosted _ here e k g = no_case (sym e)
+    hosted _ here e k g = never (sym e)
 
     by : (b : Bool) → is_declaring s.mode ≡ b → length (emitted s t) + length (pending n) ≡ suc (length (pending s))
     by true e = declaring e

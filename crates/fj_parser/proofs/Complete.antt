@@ -320,7 +320,7 @@ abbrev class_text : ClassTree → List Token → List Token
 class_text k ts = Id k.name ∷ (ExtendsWord ∷ (Id k.parent ∷ (OpenBrace ∷ in_order spell_field k.fields (spell_ctor k (in_order spell_method k.methods (CloseBrace ∷ ts))))))
 
 -- class
-class_run : (k : ClassTree) (ts : List Token) (fs : List (List ℕ)) (gs : List Formula) (cs : List Class) → run (spell_class k ts) (behind fs gs cs) ≡ with_roles (roles_class k) (run ts (behind fs gs (cs ++ value_class fs k ∷ [])))
+pub class_run : (k : ClassTree) (ts : List Token) (fs : List (List ℕ)) (gs : List Formula) (cs : List Class) → run (spell_class k ts) (behind fs gs cs) ≡ with_roles (roles_class k) (run ts (behind fs gs (cs ++ value_class fs k ∷ [])))
 class_run k ts fs gs cs =
     class_marks_run k.marks (class_text k ts) fs gs cs
     ∙ ap (with_roles (λ rs. roles_marks k.marks (plain ∷ rs))) (class_words_run k (colors_of fs k.marks) ts fs gs cs)

@@ -120,7 +120,7 @@ staying class n h = by n.mode refl h
 pub stage_open : (class : List ℕ) (s : State) → CtorStage class s → is_end s.mode ≡ false
 stage_open class s (before_it here name) = ap is_end here
 stage_open class s (behind_name here same) = ap is_end here
-stage_open class s (in_it inside) = by s.mode inside
+stage_open class s (in_it within) = by s.mode within
   where
     by : (m : Mode) → is_in_ctor m ≡ true → is_end m ≡ false
     by AtEnd e = no_case e
@@ -161,7 +161,7 @@ behind_step class s n t here h = absurd (none-some n h)
 pub stage_step : (class : List ℕ) (s n : State) (t : Token) → CtorStage class s → step_for goal.Constructor s.mode s t ≡ Some n → StageNext class s t n
 stage_step class s n t (before_it here name) h = goes_on (before_step class s n t (ap (λ m. step_for goal.Constructor m s t) (sym here) ∙ h))
 stage_step class s n t (behind_name here same) h = goes_on (behind_name_step class s n t (ap (λ m. step_for goal.Constructor m s t) (sym here) ∙ h))
-stage_step class s n t (in_it inside) h = goes_on (in_it_step class s.mode s n t inside h)
+stage_step class s n t (in_it within) h = goes_on (in_it_step class s.mode s n t within h)
 stage_step class s n t (behind_it here) h = behind_step class s n t here (ap (λ m. step_for goal.Constructor m s t) (sym here) ∙ h)
 
 -- ---- runs
@@ -310,5 +310,5 @@ module _ (features : List (List ℕ)) (class : List ℕ) where
   pub stage_closes : (s : State) → CtorStage class s → (more : List Token) × Reaches InMethods (reached_by more s)
   stage_closes s (before_it here name) = (Id s.name ∷ (OpenParen ∷ params_end), subst (λ m. Reaches InMethods (reached_by (Id s.name ∷ (OpenParen ∷ params_end)) (record s { mode = m }))) (sym here) (start_closes s))
   stage_closes s (behind_name here same) = (OpenParen ∷ params_end, subst (λ m. Reaches InMethods (reached_by (OpenParen ∷ params_end) (record s { mode = m }))) (sym here) (name_closes s same))
-  stage_closes s (in_it inside) = (closing s.mode s, closes s.mode s inside)
+  stage_closes s (in_it within) = (closing s.mode s, closes s.mode s within)
   stage_closes s (behind_it here) = ([], subst (λ m. Reaches InMethods (reached_by [] (record s { mode = m }))) (sym here) (behind_closes s))

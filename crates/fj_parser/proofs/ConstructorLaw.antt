@@ -22,6 +22,7 @@ use Rattle.fj_parser.specs.Readers.{Run, with_roles, then_run, run_of}
 use Rattle.fj_parser.proofs.Closing.{Reaches}
 use Rattle.fj_parser.proofs.Complete.{same_name}
 use Rattle.fj_parser.proofs.ConstructorRuns.{ctor_reader, before_ctor, behind_one, in_ctor, ctor_words, ctor_runs, no_case, is_end, narrow_in, narrow_run}
+use Rattle.fj_parser.proofs.ConstructorSettling.{ctor_settles}
 use Rattle.fj_parser.proofs.ConstructorStages.{is_in_ctor, CtorStage, before_it, behind_name, in_it, behind_it, stage_open, StageNext, goes_on, ends_now, stage_step, end_only, Reached, inside, ended_by, end_plain, reached_run, reached_by, stage_closes}
 use Rattle.fj_parser.proofs.Law.{end_ends, run_settles}
 use Rattle.fj_parser.proofs.ListsSound.{is_whole_in, is_whole, Accepts, never, Read}
@@ -300,3 +301,30 @@ ctor_unnamed InMembers s w e = no_case (sym e)
 ctor_unnamed AfterType s w e = refl
 ctor_unnamed InMethods s w e = refl
 ctor_unnamed m s w e = name_stops m s w e
+
+-- ---- all laws together
+
+-- the machine for a single constructor reads the texts of constructors
+pub constructor_laws : (features : List (List ℕ)) (class : List ℕ) → is_identifier class ≡ true → Reads (constructors features class) (reader_for goal.Constructor features class)
+constructor_laws features class fine =
+    record {
+      grammar = ctor_grammar_is_plain features class;
+      ended = ctor_ended features class;
+      stands_for = λ s. s.ctor;
+      valued = λ c. refl;
+      complete = ctor_text_runs features class;
+      sound = sound features class;
+      closes = closes features class;
+      first = refl;
+      last = λ c. refl;
+      each = each features class;
+      settles = λ ts s c rs ran. ctor_settles features class ts s (ctor_ended features class c) rs refl ran;
+      settled = settled features class;
+      named = named features class fine;
+      unnamed = λ s w free. ctor_unnamed s.mode s w free;
+    }
+
+-- the constructor that is read
+pub constructor_stands : (features : List (List ℕ)) (class : List ℕ) (fine : is_identifier class ≡ true) (n : State) → (constructor_laws features class fine).stands_for n ≡ n.ctor
+unfolding constructor_laws
+constructor_stands features class fine n = refl

@@ -48,7 +48,7 @@ is_end _ = false
 abbrev pub IsOpen : State → Type 0
 IsOpen s = is_end s.mode ≡ false
 
-passes : (b : Bool) (s n : State) (w : List ℕ) → (if b then step_in InMembers s (Id w) else None) ≡ Some n → step_in InMembers s (Id w) ≡ Some n
+pub passes : (b : Bool) (s n : State) (w : List ℕ) → (if b then step_in InMembers s (Id w) else None) ≡ Some n → step_in InMembers s (Id w) ≡ Some n
 passes true s n w h = h
 passes false s n w h = absurd (none-some n h)
 

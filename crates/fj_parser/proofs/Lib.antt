@@ -4,6 +4,10 @@ pub mod ClassLaw
 pub mod ClassRuns
 pub mod Closing
 pub mod Complete
+pub mod ConstructorLaw
+pub mod ConstructorRuns
+pub mod ConstructorSettling
+pub mod ConstructorStages
 pub mod Counted
 pub mod Exact
 pub mod Expressions

@@ -1,17 +1,16 @@
 -- Each state in a single class can be completed: tokens that lead from it to the end of the class's text.
-use Rattle.std.proofs.Common.{◌≡◌, ℕ, ◌≤◌, Bool, true, false, if◌then◌else◌, List, [], ◌∷◌, ◌++◌, length, bit_or, Option, Some, None, refl, sym, ◌∙◌, ap, subst, arith, append_assoc}
+use Rattle.std.proofs.Common.{◌≡◌, ℕ, ◌≤◌, Bool, true, false, List, [], ◌∷◌, ◌++◌, length, bit_or, Option, Some, refl, sym, ◌∙◌, ap, subst, arith, append_assoc}
 use Rattle.std.proofs.lemmas.List.{append-nil}
 use Rattle.std.specs.Str.{bytes_eq}
 use Rattle.cfj_model.specs.declared.class.Class.{Class}
 use Rattle.cfj_model.specs.declared.expr.Expr.{Expr}
 use Rattle.cfj_model.specs.ExpressionGrammar.{value_expr}
 use Rattle.cfj_model.specs.Marks.{color_of}
-use Rattle.cfj_model.specs.Tokens.{Token, ClassWord, CloseBrace, Semicolon, End}
+use Rattle.cfj_model.specs.Tokens.{Token, Semicolon, End}
 use Rattle.cfj_model.specs.Roles.{Role, used_name, plain}
 use Rattle.expression_reader.specs.Machine as expression
 use Rattle.expression_reader.specs.Reading as expression_reading
 use Rattle.expression_reader.proofs.Law as expression_law
-use Rattle.fj_parser.specs.declared.goal.Goal.TheVariants as goal
 use Rattle.fj_parser.specs.declared.mode.Owner.{Owner}
 use Rattle.fj_parser.specs.declared.mode.Owner.TheVariants as owner
 use Rattle.fj_parser.specs.declared.mode.Node.{Node}
@@ -19,10 +18,10 @@ use Rattle.fj_parser.specs.declared.mode.Node.TheVariants as node
 use Rattle.fj_parser.specs.declared.mode.Mode.{Mode}
 use Rattle.fj_parser.specs.declared.mode.Mode.TheVariants.{Begin, AfterFeatures, AfterFeature, AfterFeatureComma, Start, InConstraint, BetweenClasses, AfterAt, AfterMark, AfterMarkedType, AfterClass, AfterClassName, AfterExtends, AfterParent, InMembers, AfterType, AfterFieldName, InParams, AfterParamComma, AfterParamType, AfterParam, AfterParams, AfterAssigned, AfterEquals, AfterSecondName, InExpression, AfterBody, AtEnd}
 use Rattle.fj_parser.specs.Goals.{none_yet}
-use Rattle.fj_parser.specs.Machine.{unnamed, State, with_field, method_of, with_method, pending, pending_in, run}
-use Rattle.fj_parser.specs.Readers.{Run, Reader, with_roles, then_run, run_of}
+use Rattle.fj_parser.specs.Machine.{unnamed, State, with_field, method_of, with_method, pending, run}
+use Rattle.fj_parser.specs.Readers.{Run, with_roles, run_of}
 use Rattle.fj_parser.proofs.ClassRuns.{class_reader, Stage, in_first, behind_first, behind_end, wide_run}
-use Rattle.fj_parser.proofs.Closing.{Reaches, let_through, same_rest, in_mode, methods_end, assigns_end, second_end, sends_end, method_end, body_end, params_end, ctor_end, parent_end, marked_end, closing}
+use Rattle.fj_parser.proofs.Closing.{Reaches, let_through, same_rest, methods_end, assigns_end, second_end, sends_end, method_end, body_end, params_end, ctor_end, parent_end, marked_end, closing}
 use Rattle.fj_parser.proofs.Complete.{same_name}
 use Rattle.fj_parser.proofs.Expressions.{in_body, expression_runs, rest_reads}
 use Rattle.fj_parser.proofs.Parts.{phase, region}

@@ -1,7 +1,6 @@
 -- The laws of the machine for a single class: it reads the texts of classes and no others, and each state can be completed.
-use Rattle.std.proofs.Common.{◌≡◌, ℕ, suc, ◌<◌, true, false, List, [], ◌∷◌, ◌++◌, length, Option, Some, None, refl, sym, ◌∙◌, ap, subst, arith}
-use Rattle.std.proofs.lemmas.List.{append-nil}
-use Rattle.std.proofs.lemmas.Option.{none-some, same_Some}
+use Rattle.std.proofs.Common.{◌≡◌, ℕ, suc, true, false, List, [], ◌∷◌, ◌++◌, length, Some, None, refl, sym, ◌∙◌, ap, subst, arith}
+use Rattle.std.proofs.lemmas.Option.{same_Some}
 use Rattle.cfj_model.specs.declared.class.Class.{Class}
 use Rattle.cfj_model.specs.Faults.{single_classes}
 use Rattle.cfj_model.specs.Grammar.{ClassTree, spell_class, value_class}
@@ -10,15 +9,15 @@ use Rattle.cfj_model.specs.Roles.{Role, plain}
 use Rattle.cfj_model.specs.Tokens.{Token, Id, ClassWord, End}
 use Rattle.cfj_model.specs.TreeRoles.{roles_class}
 use Rattle.fj_symbols.specs.Views.{are_read}
-use Rattle.fj_parser.specs.Laws.{Settles, Closes, GoesByName, Reads}
+use Rattle.fj_parser.specs.Laws.{Closes, GoesByName, Reads}
 use Rattle.fj_parser.specs.declared.goal.Goal.TheVariants as goal
 use Rattle.fj_parser.specs.declared.mode.Mode.{Mode}
 use Rattle.fj_parser.specs.declared.mode.Mode.TheVariants.{BetweenClasses, AtEnd}
 use Rattle.fj_parser.specs.Goals.{class_or_end, step_for, takes_name_for, reader_for}
-use Rattle.fj_parser.specs.Machine.{unnamed, State, behind, class_of, start, pending, emitted, step_in, takes_name_in, run}
+use Rattle.fj_parser.specs.Machine.{unnamed, State, behind, class_of, start, pending, emitted}
 use Rattle.fj_parser.specs.Readers.{Run, with_roles, run_of}
 use Rattle.fj_parser.proofs.ClassClosing.{ClassEnding, class_ending}
-use Rattle.fj_parser.proofs.ClassRuns.{class_reader, narrow_in, narrow_run, Stage, stage_reached, behind_class, class_runs}
+use Rattle.fj_parser.proofs.ClassRuns.{class_reader, narrow_in, narrow_run, stage_reached, behind_class, class_runs}
 use Rattle.fj_parser.proofs.Closing.{Reaches}
 use Rattle.fj_parser.proofs.Law.{end_ends, run_settles}
 use Rattle.fj_parser.proofs.ListsSound.{is_whole_in, is_whole}

@@ -1,10 +1,9 @@
 -- The machine for a single class: it goes as that for projects does, up to the end of the class.
-use Rattle.std.proofs.Common.{◌≡◌, ℕ, suc, ◌+◌, ◌*◌, ◌≤◌, true, false, List, [], ◌∷◌, ◌++◌, length, Option, Some, None, refl, sym, ◌∙◌, ap, subst, arith}
+use Rattle.std.proofs.Common.{◌≡◌, ℕ, suc, ◌+◌, ◌*◌, ◌≤◌, List, [], ◌∷◌, length, Some, refl, sym, ◌∙◌, ap, subst, arith}
 use Rattle.std.proofs.lemmas.Bool.{leb-true}
 use Rattle.std.proofs.lemmas.Option.{none-some, same_Some}
 use Rattle.cfj_model.specs.declared.class.Class.{Class}
 use Rattle.cfj_model.specs.Grammar.{ClassTree, spell_class, value_class}
-use Rattle.cfj_model.specs.Faults.{single_classes}
 use Rattle.cfj_model.specs.Roles.{Role}
 use Rattle.cfj_model.specs.Tokens.{Token, ClassWord, At, End}
 use Rattle.cfj_model.specs.TreeRoles.{roles_class}
@@ -13,8 +12,8 @@ use Rattle.fj_parser.specs.declared.mode.Mode.{Mode}
 use Rattle.fj_parser.specs.declared.mode.Mode.TheVariants.{BetweenClasses, AfterAt, AfterClass, AtEnd}
 use Rattle.fj_parser.specs.declared.mode.Node.TheVariants as node
 use Rattle.fj_parser.specs.Goals.{none_yet, class_or_end, step_for, reader_for}
-use Rattle.fj_parser.specs.Machine.{unnamed, State, behind, step_in, step, run}
-use Rattle.fj_parser.specs.Readers.{Run, Reader, with_roles, run_of}
+use Rattle.fj_parser.specs.Machine.{unnamed, State, behind, step_in, run}
+use Rattle.fj_parser.specs.Readers.{Reader, with_roles, run_of}
 use Rattle.fj_parser.proofs.Complete.{class_run}
 use Rattle.fj_parser.proofs.Parts.{Follows, here_run, same_run, region, phase, Moves, kept, grown, moves, phase_grows}
 use Rattle.fj_parser.proofs.Readers.{on_from, run_append}

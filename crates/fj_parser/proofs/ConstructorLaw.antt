@@ -1,7 +1,7 @@
 -- The laws of the machine for a single constructor: it reads the texts of constructors and no others, and each state can be completed.
-use Rattle.std.proofs.Common.{◌≡◌, ℕ, suc, ◌+◌, ◌<◌, Bool, true, false, if◌then◌else◌, List, [], ◌∷◌, ◌++◌, length, Option, Some, None, refl, sym, ◌∙◌, ap, subst, arith, append_assoc, length-append}
+use Rattle.std.proofs.Common.{◌≡◌, ℕ, suc, ◌+◌, Bool, true, false, if◌then◌else◌, List, [], ◌∷◌, ◌++◌, length, Some, None, refl, sym, ◌∙◌, ap, subst, arith, append_assoc, length-append}
 use Rattle.std.proofs.lemmas.List.{append-nil}
-use Rattle.std.proofs.lemmas.Option.{none-some, same_Some}
+use Rattle.std.proofs.lemmas.Option.{none-some}
 use Rattle.std.proofs.lemmas.Slice.Eq.{bytes_eq-Decides}
 use Rattle.std.specs.Str.{bytes_eq}
 use Rattle.cfj_model.specs.Grammar.{spell_ctor}
@@ -11,28 +11,26 @@ use Rattle.cfj_model.specs.Tokens.{Token, Id, OpenParen, CloseBrace, End}
 use Rattle.cfj_model.specs.TreeRoles.{roles_ctor}
 use Rattle.fj_symbols.specs.Views.{are_read}
 use Rattle.fj_parser.specs.Languages.{CtorTree, in_class, constructors}
-use Rattle.fj_parser.specs.Laws.{Settles, Closes, GoesByName, IsPlainLanguage, Reads}
+use Rattle.fj_parser.specs.Laws.{Closes, GoesByName, IsPlainLanguage, Reads}
 use Rattle.fj_parser.specs.declared.goal.Goal.TheVariants as goal
-use Rattle.fj_parser.specs.declared.mode.Owner.TheVariants as owner
 use Rattle.fj_parser.specs.declared.mode.Mode.{Mode}
-use Rattle.fj_parser.specs.declared.mode.Mode.TheVariants.{InMembers, AfterType, InParams, InMethods, InExpression, AtEnd}
+use Rattle.fj_parser.specs.declared.mode.Mode.TheVariants.{InMembers, AfterType, InMethods, InExpression, AtEnd}
 use Rattle.fj_parser.specs.Goals.{step_for, takes_name_for, reader_for}
-use Rattle.fj_parser.specs.Machine.{unnamed, State, with_class, pending, pending_in, emitted, step_in, takes_name_in, reader, run}
+use Rattle.fj_parser.specs.Machine.{unnamed, State, pending, pending_in, emitted, reader, run}
 use Rattle.fj_parser.specs.Readers.{Run, with_roles, then_run, run_of}
 use Rattle.fj_parser.proofs.Closing.{Reaches}
 use Rattle.fj_parser.proofs.Complete.{same_name}
-use Rattle.fj_parser.proofs.ConstructorRuns.{ctor_reader, before_ctor, behind_one, in_ctor, ctor_words, ctor_runs, no_case, is_end, narrow_in, narrow_run}
+use Rattle.fj_parser.proofs.ConstructorRuns.{ctor_reader, before_ctor, behind_one, in_ctor, ctor_runs, no_case, is_end, narrow_in, narrow_run}
 use Rattle.fj_parser.proofs.ConstructorSettling.{ctor_settles}
-use Rattle.fj_parser.proofs.ConstructorStages.{is_in_ctor, CtorStage, before_it, behind_name, in_it, behind_it, stage_open, StageNext, goes_on, ends_now, stage_step, end_only, Reached, inside, ended_by, end_plain, reached_run, reached_by, stage_closes}
-use Rattle.fj_parser.proofs.Law.{end_ends, run_settles}
+use Rattle.fj_parser.proofs.ConstructorStages.{is_in_ctor, CtorStage, before_it, behind_name, in_it, behind_it, stage_open, StageNext, goes_on, ends_now, stage_step, Reached, inside, ended_by, end_plain, reached_run, reached_by, stage_closes}
+use Rattle.fj_parser.proofs.Law.{end_ends}
 use Rattle.fj_parser.proofs.ListsSound.{is_whole_in, is_whole, Accepts, never, Read}
 use Rattle.fj_parser.proofs.MembersSound as members
 use Rattle.fj_parser.proofs.MembersSound.{ctor_rest, behind_this, ctor_read}
 use Rattle.fj_parser.proofs.Naming.{Kept, kept_run, name_goes, name_stops}
-use Rattle.fj_parser.proofs.Parts.{same_but_last}
-use Rattle.fj_parser.proofs.Readers.{on_from, run_append, run_more}
+use Rattle.fj_parser.proofs.Readers.{on_from, run_append}
 use Rattle.fj_parser.proofs.Spelled.{ctor_before, ctor_roles_before, ctor_settled}
-use Rattle.fj_parser.proofs.Standing.{Stands, stands_run, settled_append, waiting_settled, each_once, emitted_in}
+use Rattle.fj_parser.proofs.Standing.{Stands, stands_run, settled_append, waiting_settled, each_once}
 
 -- what follows a constructor stands behind it, and its roles are settled
 pub ctor_grammar_is_plain : (features : List (List ℕ)) (class : List ℕ) → IsPlainLanguage (constructors features class)

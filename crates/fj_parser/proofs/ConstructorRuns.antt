@@ -1,26 +1,23 @@
 -- The machine for a single constructor: it goes as that for projects does, up to the end of the constructor.
-use Rattle.std.proofs.Common.{◌≡◌, ℕ, suc, ◌+◌, ◌*◌, ◌≤◌, Bool, true, false, if◌then◌else◌, List, [], ◌∷◌, ◌++◌, length, Option, Some, None, refl, sym, ◌∙◌, ap, subst, arith, length-append}
-use Rattle.std.proofs.lemmas.List.{append-nil}
+use Rattle.std.proofs.Common.{◌≡◌, ℕ, ◌+◌, ◌*◌, ◌≤◌, Bool, true, false, if◌then◌else◌, List, [], ◌∷◌, length, Some, None, refl, sym, ◌∙◌, ap, arith, length-append}
 use Rattle.std.proofs.lemmas.Option.{none-some, same_Some}
-use Rattle.std.proofs.lemmas.Slice.Eq.{bytes_eq-Decides}
 use Rattle.std.specs.Str.{bytes_eq}
-use Rattle.cfj_model.specs.declared.class.Class.{Class}
 use Rattle.cfj_model.specs.Grammar.{ClassTree, spell_ctor, spell_param, spell_sent, spell_assign}
 use Rattle.cfj_model.specs.Marks.{in_order, separated}
 use Rattle.cfj_model.specs.Roles.{Role, used_name, plain}
-use Rattle.cfj_model.specs.Tokens.{Token, Id, SuperWord, ThisWord, OpenBrace, CloseBrace, OpenParen, CloseParen, Semicolon, Comma, Dot, Equals, At, End}
+use Rattle.cfj_model.specs.Tokens.{Token, Id, SuperWord, OpenBrace, CloseBrace, OpenParen, CloseParen, Semicolon, Comma, At, End}
 use Rattle.cfj_model.specs.TreeRoles.{roles_ctor, roles_param}
 use Rattle.fj_parser.specs.declared.goal.Goal.TheVariants as goal
 use Rattle.fj_parser.specs.declared.mode.Mode.{Mode}
-use Rattle.fj_parser.specs.declared.mode.Mode.TheVariants.{InMembers, AfterAt, AfterMark, AfterType, InParams, AfterParamComma, AfterParamType, AfterParam, AfterParams, InBody, AfterSuper, InSends, AfterSendComma, AfterSend, AfterSends, InAssigns, AfterThis, AfterThisDot, AfterAssigned, AfterEquals, AfterSecondName, InMethods, AfterResult, AtEnd}
+use Rattle.fj_parser.specs.declared.mode.Mode.TheVariants.{InMembers, AfterAt, AfterType, InParams, InMethods, AfterResult, AtEnd}
 use Rattle.fj_parser.specs.declared.mode.Node.TheVariants as node
 use Rattle.fj_parser.specs.declared.mode.Owner.TheVariants as owner
-use Rattle.fj_parser.specs.Goals.{none_yet, ends, step_for, reader_for}
+use Rattle.fj_parser.specs.Goals.{step_for, reader_for}
 use Rattle.fj_parser.specs.Languages.{CtorTree, in_class}
-use Rattle.fj_parser.specs.Machine.{unnamed, State, behind, with_class, step_in, step, run}
+use Rattle.fj_parser.specs.Machine.{unnamed, State, behind, with_class, step_in, run}
 use Rattle.fj_parser.specs.Readers.{Run, Reader, with_roles, then_run, run_of}
 use Rattle.fj_parser.proofs.Complete.{same_name, params_run, body_run, behind_ctor}
-use Rattle.fj_parser.proofs.Parts.{Follows, here_run, same_run, phase, phase_grows}
+use Rattle.fj_parser.proofs.Parts.{Follows, same_run, phase, phase_grows}
 use Rattle.fj_parser.proofs.Readers.{on_from, run_append}
 use Rattle.fj_parser.proofs.Spelled.{ctor_before}
 

@@ -1,5 +1,5 @@
 -- What waits is settled first, also where a constructor is read by itself: its runs are those of a class's text.
-use Rattle.std.proofs.Common.{◌≡◌, ℕ, Bool, true, false, List, [], ◌∷◌, ◌++◌, Option, Some, None, refl, sym, ◌∙◌, ap, subst}
+use Rattle.std.proofs.Common.{◌≡◌, ℕ, Bool, true, false, List, [], ◌∷◌, ◌++◌, Option, Some, None, refl, sym, ◌∙◌, ap}
 use Rattle.std.proofs.lemmas.List.{append-nil}
 use Rattle.std.proofs.lemmas.Option.{none-some, same_Some}
 use Rattle.std.specs.Str.{bytes_eq}
@@ -10,7 +10,7 @@ use Rattle.fj_parser.specs.declared.goal.Goal.TheVariants as goal
 use Rattle.fj_parser.specs.declared.mode.Mode.{Mode}
 use Rattle.fj_parser.specs.declared.mode.Mode.TheVariants.{InMembers, AfterType, InMethods, AtEnd}
 use Rattle.fj_parser.specs.Goals.{ends, step_for}
-use Rattle.fj_parser.specs.Machine.{State, with_class, pending, emitted, step_in, step, run}
+use Rattle.fj_parser.specs.Machine.{State, with_class, pending, emitted, step_in, run}
 use Rattle.fj_parser.specs.Readers.{Run, then_run, run_of}
 use Rattle.fj_parser.proofs.ConstructorRuns.{ctor_reader, no_case, passes}
 use Rattle.fj_parser.proofs.ConstructorStages.{end_only, end_plain}

@@ -20,7 +20,7 @@ use Rattle.fj_parser.specs.declared.mode.Node.TheVariants as node
 use Rattle.fj_parser.specs.declared.mode.Mode.{Mode}
 use Rattle.fj_parser.specs.declared.mode.Mode.TheVariants.{Begin, AfterFeatures, AfterFeature, AfterFeatureComma, Start, InConstraint, BetweenClasses, AfterAt, AfterMark, AfterMarkedType, AfterClass, AfterClassName, AfterExtends, AfterParent, InMembers, AfterType, AfterFieldName, InParams, AfterParamComma, AfterParamType, AfterParam, AfterParams, InBody, AfterSuper, InSends, AfterSendComma, AfterSend, AfterSends, InAssigns, AfterThis, AfterThisDot, AfterAssigned, AfterEquals, AfterSecondName, InMethods, AfterResult, AfterMethodName, InMethodBody, InExpression, AfterBody, AtEnd}
 use Rattle.fj_parser.specs.Goals.{none_yet, step_for, reader_for}
-use Rattle.fj_parser.specs.Machine.{unnamed, State, class_of, with_method, after_formula, in_formula, after_expression, in_expression, opens_constraint, step_in, step, emitted}
+use Rattle.fj_parser.specs.Machine.{unnamed, State, class_of, after_formula, in_formula, after_expression, in_expression, opens_constraint, step_in, step, emitted}
 use Rattle.fj_parser.specs.Readers.{Run, then_run, run_of}
 
 -- lists that are the same with one more item

@@ -157,7 +157,7 @@ more_params_run o (d ∷ ds) ts s =
     ∙ ap (λ ps. with_roles (λ rs. each_behind plain (roles_param_of o) (d ∷ ds) (plain ∷ rs)) (run ts (after_params o (record s { params = ps })))) (numbered_on (value_param s.features) s.params d ds)
 
 -- list(param), and the bracket
-params_run : (o : Owner) (ds : List Declared) (ts : List Token) (s : State) → run (separated Comma spell_param ds (CloseParen ∷ ts)) (in_params o s) ≡ with_roles (λ rs. separated plain (roles_param_of o) ds (plain ∷ rs)) (run ts (after_params o (record s { params = numbered (value_param s.features) 0 ds })))
+pub params_run : (o : Owner) (ds : List Declared) (ts : List Token) (s : State) → run (separated Comma spell_param ds (CloseParen ∷ ts)) (in_params o s) ≡ with_roles (λ rs. separated plain (roles_param_of o) ds (plain ∷ rs)) (run ts (after_params o (record s { params = numbered (value_param s.features) 0 ds })))
 unfolding run_of
 params_run o [] ts s = refl
 params_run o (d ∷ ds) ts s =
@@ -219,14 +219,14 @@ assigns_run (d ∷ ds) ts s =
     ∙ ap (λ ps. with_roles (in_order roles_assign (d ∷ ds)) (run ts (in_assigns (record s { assigns = ps })))) (numbered_on (value_sent s.features) s.assigns d ds)
 
 -- the states of a constructor: before its body, and behind it
-abbrev before_body : ClassTree → State → State
+abbrev pub before_body : ClassTree → State → State
 before_body k s = record s { mode = AfterParams owner.Constructor; params = numbered (value_param s.features) 0 k.params; sends = []; assigns = []; colors = 0; of = unnamed; last = unnamed }
 
 abbrev pub behind_ctor : ClassTree → State → State
 behind_ctor k s = record s { mode = InMethods; params = []; sends = []; assigns = []; ctor = value_ctor s.features k; colors = 0; of = unnamed; last = unnamed }
 
 -- the constructor from its body on
-body_run : (k : ClassTree) (ts : List Token) (s : State) → run (OpenBrace ∷ (SuperWord ∷ (OpenParen ∷ separated Comma spell_sent k.sends (CloseParen ∷ (Semicolon ∷ in_order spell_assign k.assigns (CloseBrace ∷ ts)))))) (before_body k s) ≡ with_roles (λ rs. plain ∷ (plain ∷ (plain ∷ separated plain roles_sent k.sends (plain ∷ (plain ∷ in_order roles_assign k.assigns (plain ∷ rs)))))) (run ts (behind_ctor k s))
+pub body_run : (k : ClassTree) (ts : List Token) (s : State) → run (OpenBrace ∷ (SuperWord ∷ (OpenParen ∷ separated Comma spell_sent k.sends (CloseParen ∷ (Semicolon ∷ in_order spell_assign k.assigns (CloseBrace ∷ ts)))))) (before_body k s) ≡ with_roles (λ rs. plain ∷ (plain ∷ (plain ∷ separated plain roles_sent k.sends (plain ∷ (plain ∷ in_order roles_assign k.assigns (plain ∷ rs)))))) (run ts (behind_ctor k s))
 unfolding run_of
 body_run k ts s =
     ap (with_roles (λ rs. plain ∷ (plain ∷ (plain ∷ rs)))) (sends_run k.sends (Semicolon ∷ in_order spell_assign k.assigns (CloseBrace ∷ ts)) (before_body k s))
@@ -320,7 +320,7 @@ abbrev class_text : ClassTree → List Token → List Token
 class_text k ts = Id k.name ∷ (ExtendsWord ∷ (Id k.parent ∷ (OpenBrace ∷ in_order spell_field k.fields (spell_ctor k (in_order spell_method k.methods (CloseBrace ∷ ts))))))
 
 -- class
-class_run : (k : ClassTree) (ts : List Token) (fs : List (List ℕ)) (gs : List Formula) (cs : List Class) → run (spell_class k ts) (behind fs gs cs) ≡ with_roles (roles_class k) (run ts (behind fs gs (cs ++ value_class fs k ∷ [])))
+pub class_run : (k : ClassTree) (ts : List Token) (fs : List (List ℕ)) (gs : List Formula) (cs : List Class) → run (spell_class k ts) (behind fs gs cs) ≡ with_roles (roles_class k) (run ts (behind fs gs (cs ++ value_class fs k ∷ [])))
 class_run k ts fs gs cs =
     class_marks_run k.marks (class_text k ts) fs gs cs
     ∙ ap (with_roles (λ rs. roles_marks k.marks (plain ∷ rs))) (class_words_run k (colors_of fs k.marks) ts fs gs cs)

@@ -1,7 +1,14 @@
 pub mod Accepted
 pub mod Behind
+pub mod ClassClosing
+pub mod ClassLaw
+pub mod ClassRuns
 pub mod Closing
 pub mod Complete
+pub mod ConstructorLaw
+pub mod ConstructorRuns
+pub mod ConstructorSettling
+pub mod ConstructorStages
 pub mod Counted
 pub mod CountedRoles
 pub mod Exact
@@ -17,10 +24,11 @@ pub mod LexedTokens
 pub mod ListsSound
 pub mod MembersSound
 pub mod MethodsSound
-pub mod Named
 pub mod ModelLaw
 pub mod NameLaw
+pub mod Named
 pub mod Naming
+pub mod Parts
 pub mod Places
 pub mod Progress
 pub mod Readers

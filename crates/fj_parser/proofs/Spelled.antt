@@ -66,7 +66,7 @@ body_before k a b =
     (ap (λ ts. separated Comma spell_sent k.sends (CloseParen ∷ (Semicolon ∷ ts))) (assigns_before k a b)
     ∙ sends_before k (in_order spell_assign k.assigns (CloseBrace ∷ a)) b)
 
-ctor_before : (k : ClassTree) (a b : List Token) → spell_ctor k (a ++ b) ≡ spell_ctor k a ++ b
+pub ctor_before : (k : ClassTree) (a b : List Token) → spell_ctor k (a ++ b) ≡ spell_ctor k a ++ b
 ctor_before k a b =
     ap (λ ts. Id k.name ∷ (OpenParen ∷ ts))
     (ap (λ ts. separated Comma spell_param k.params (CloseParen ∷ ts)) (body_before k a b)
@@ -145,7 +145,7 @@ body_roles_before k a b =
     (ap (λ rs. separated plain roles_sent k.sends (plain ∷ (plain ∷ rs))) (in_order_before roles_assign assign_roles_before k.assigns (plain ∷ a) b)
     ∙ separated_before plain roles_sent sent_roles_before k.sends (plain ∷ (plain ∷ in_order roles_assign k.assigns (plain ∷ a))) b)
 
-ctor_roles_before : (k : ClassTree) (a b : List Role) → roles_ctor k (a ++ b) ≡ roles_ctor k a ++ b
+pub ctor_roles_before : (k : ClassTree) (a b : List Role) → roles_ctor k (a ++ b) ≡ roles_ctor k a ++ b
 ctor_roles_before k a b =
     ap (λ rs. used_name k.name ∷ (plain ∷ rs))
     (ap (λ rs. separated plain roles_param k.params (plain ∷ rs)) (body_roles_before k a b)
@@ -235,7 +235,7 @@ sent_settled s rest e = marks_settled s.marks (sent_name s.name ∷ rest) e
 assign_settled : (s : Named) (rest : List Role) → are_settled rest ≡ true → are_settled (roles_assign s rest) ≡ true
 assign_settled s rest e = marks_settled s.marks (plain ∷ (plain ∷ (assigned_name s.name ∷ (plain ∷ (used_name s.name ∷ (plain ∷ rest)))))) e
 
-ctor_settled : (k : ClassTree) (rest : List Role) → are_settled rest ≡ true → are_settled (roles_ctor k rest) ≡ true
+pub ctor_settled : (k : ClassTree) (rest : List Role) → are_settled rest ≡ true → are_settled (roles_ctor k rest) ≡ true
 ctor_settled k rest e =
     separated_settled roles_param param_settled k.params (plain ∷ body_roles k rest)
     (separated_settled roles_sent sent_settled k.sends (plain ∷ (plain ∷ in_order roles_assign k.assigns (plain ∷ rest)))

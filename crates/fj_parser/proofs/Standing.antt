@@ -382,7 +382,7 @@ each_once s n t rs h goes = by (is_declaring s.mode) refl
     by false e = hosted s.mode refl e h.holds goes
 
 -- and so does a run
-stands_run : (ts : List Token) (s n : State) (rs qs : List Role) → Stands s rs → run ts s ≡ (Some n, qs) → Stands n (rs ++ qs)
+pub stands_run : (ts : List Token) (s n : State) (rs qs : List Role) → Stands s rs → run ts s ≡ (Some n, qs) → Stands n (rs ++ qs)
 unfolding run_of
 stands_run [] s n rs qs h e =
     let same : s ≡ n = same_Some s n (ap (λ (p : Run State). p.0) e) in

@@ -71,7 +71,7 @@ first_mark_run n m ms ts s = ap (with_role (mark_name m)) (marks_run n ms ts (re
 -- ---- a class's parts
 
 -- the states between the items of each list
-abbrev in_members : State → State
+abbrev pub in_members : State → State
 in_members s = record s { mode = InMembers; colors = 0; of = unnamed; last = unnamed }
 
 abbrev pub in_params : Owner → State → State
@@ -115,7 +115,7 @@ abbrev pub with_an_assign : State → Named → State
 with_an_assign s d = record s { assigns = s.assigns ++ value_sent s.features (length s.assigns) d ∷ [] }
 
 -- a field with these marks
-field_run : (ms : List (List ℕ)) (of name : List ℕ) (ts : List Token) (s : State) → run (spell_field (record { marks = ms; of = of; name = name }) ts) (in_members s) ≡ with_roles (roles_field (record { marks = ms; of = of; name = name })) (run ts (in_members (with_a_field s (record { marks = ms; of = of; name = name }))))
+pub field_run : (ms : List (List ℕ)) (of name : List ℕ) (ts : List Token) (s : State) → run (spell_field (record { marks = ms; of = of; name = name }) ts) (in_members s) ≡ with_roles (roles_field (record { marks = ms; of = of; name = name })) (run ts (in_members (with_a_field s (record { marks = ms; of = of; name = name }))))
 unfolding run_of
 field_run [] of name ts s = refl
 field_run (m ∷ ms) of name ts s = ap (with_role plain) (first_mark_run node.Member m ms (Id of ∷ (Id name ∷ (Semicolon ∷ ts))) (in_members s))
@@ -320,7 +320,7 @@ abbrev class_text : ClassTree → List Token → List Token
 class_text k ts = Id k.name ∷ (ExtendsWord ∷ (Id k.parent ∷ (OpenBrace ∷ in_order spell_field k.fields (spell_ctor k (in_order spell_method k.methods (CloseBrace ∷ ts))))))
 
 -- class
-class_run : (k : ClassTree) (ts : List Token) (fs : List (List ℕ)) (gs : List Formula) (cs : List Class) → run (spell_class k ts) (behind fs gs cs) ≡ with_roles (roles_class k) (run ts (behind fs gs (cs ++ value_class fs k ∷ [])))
+pub class_run : (k : ClassTree) (ts : List Token) (fs : List (List ℕ)) (gs : List Formula) (cs : List Class) → run (spell_class k ts) (behind fs gs cs) ≡ with_roles (roles_class k) (run ts (behind fs gs (cs ++ value_class fs k ∷ [])))
 class_run k ts fs gs cs =
     class_marks_run k.marks (class_text k ts) fs gs cs
     ∙ ap (with_roles (λ rs. roles_marks k.marks (plain ∷ rs))) (class_words_run k (colors_of fs k.marks) ts fs gs cs)

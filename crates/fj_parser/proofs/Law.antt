@@ -1,6 +1,6 @@
 -- The laws of the machine: it reads the texts of projects and no others, and each state can be completed.
 use Rattle.std.proofs.Common.{◌≡◌, ℕ, Bool, true, false, List, [], ◌∷◌, ◌++◌, Option, Some, None, refl, sym, ◌∙◌, ap, subst, append_assoc}
-use Rattle.std.proofs.lemmas.Option.{none-some}
+use Rattle.std.proofs.lemmas.Option.{none-some, same_Some}
 use Rattle.cfj_model.specs.Faults.{projects}
 use Rattle.cfj_model.specs.FormulaGrammar.{IffTree}
 use Rattle.cfj_model.specs.Grammar.{ClassTree, Tree, spell}
@@ -114,6 +114,19 @@ end_at_open (AfterMark node.Class) s n h = absurd (let no : ⊥ = cc h in no)
 end_at_open (AfterParams owner.Constructor) s n h = absurd (let no : ⊥ = cc h in no)
 end_at_open (AfterParams owner.Method) s n h = absurd (let no : ⊥ = cc h in no)
 end_at_open _ s n h = absurd (let no : ⊥ = cc h in no)
+
+-- and the end behind it is the text's
+pub end_ends : (m : Mode) (s n : State) → step_in m s End ≡ Some n → n.mode ≡ AtEnd
+end_ends m s n h = by m (end_at_open m s n h) h
+  where
+    is_end : Some (record s { mode = AtEnd }) ≡ Some n → n.mode ≡ AtEnd
+    is_end h = ap (λ (x : State). x.mode) (sym (same_Some (record s { mode = AtEnd }) n h))
+
+    by : (m : Mode) → may_end m ≡ true → step_in m s End ≡ Some n → n.mode ≡ AtEnd
+    by Begin e h = is_end h
+    by Start e h = is_end h
+    by BetweenClasses e h = is_end h
+    by _ e h = absurd (let no : ⊥ = cc e in no)
 
 -- where the end may follow, the tokens so far are the text of a tree
 sound : (front : List Token) (s n : State) (rs : List Role) → run front start ≡ (Some s, rs) → step s End ≡ Some n → (x : Tree) × (front ≡ spell x [])

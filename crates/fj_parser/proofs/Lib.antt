@@ -1,4 +1,7 @@
 pub mod Accepted
+pub mod ClassClosing
+pub mod ClassLaw
+pub mod ClassRuns
 pub mod Closing
 pub mod Complete
 pub mod Counted
@@ -14,6 +17,7 @@ pub mod ListsSound
 pub mod MembersSound
 pub mod MethodsSound
 pub mod Naming
+pub mod Parts
 pub mod Progress
 pub mod Readers
 pub mod Sound

@@ -7,6 +7,7 @@ pub mod Complete
 pub mod Counted
 pub mod Exact
 pub mod Expressions
+pub mod FieldLaw
 pub mod FirstFault
 pub mod Kept
 pub mod KeptMembers
@@ -20,6 +21,7 @@ pub mod Naming
 pub mod Parts
 pub mod Progress
 pub mod Readers
+pub mod SingleParts
 pub mod Sound
 pub mod Spelled
 pub mod Standing

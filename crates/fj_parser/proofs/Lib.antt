@@ -16,6 +16,8 @@ pub mod Law
 pub mod LexedTokens
 pub mod ListsSound
 pub mod MembersSound
+pub mod MethodLaw
+pub mod MethodRuns
 pub mod MethodsSound
 pub mod Naming
 pub mod Parts

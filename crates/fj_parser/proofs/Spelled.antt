@@ -73,7 +73,7 @@ ctor_before k a b =
     ∙ separated_before Comma spell_param param_before k.params (CloseParen ∷ body k a) b)
 
 -- a method behind its parameters, and behind its marks
-abbrev returned : MethodTree → List Token → List Token
+abbrev pub returned : MethodTree → List Token → List Token
 returned m rest = OpenBrace ∷ (ReturnWord ∷ spell_expr m.body (Semicolon ∷ (CloseBrace ∷ rest)))
 
 abbrev method_words : MethodTree → List Token → List Token
@@ -82,10 +82,12 @@ method_words m rest = Id m.result ∷ (Id m.name ∷ (OpenParen ∷ separated Co
 returned_before : (m : MethodTree) (a b : List Token) → returned m (a ++ b) ≡ returned m a ++ b
 returned_before m a b = ap (λ ts. OpenBrace ∷ (ReturnWord ∷ ts)) (sym (expression.spell_before m.body (Semicolon ∷ (CloseBrace ∷ a)) b))
 
+pub method_rest_before : (m : MethodTree) (a b : List Token) → separated Comma spell_param m.params (CloseParen ∷ returned m (a ++ b)) ≡ separated Comma spell_param m.params (CloseParen ∷ returned m a) ++ b
+method_rest_before m a b = ap (λ ts. separated Comma spell_param m.params (CloseParen ∷ ts)) (returned_before m a b) ∙ separated_before Comma spell_param param_before m.params (CloseParen ∷ returned m a) b
+
 pub method_before : (m : MethodTree) (a b : List Token) → spell_method m (a ++ b) ≡ spell_method m a ++ b
 method_before m a b =
-    ap (λ ts. spell_marks m.marks (Id m.result ∷ (Id m.name ∷ (OpenParen ∷ ts))))
-    (ap (λ ts. separated Comma spell_param m.params (CloseParen ∷ ts)) (returned_before m a b) ∙ separated_before Comma spell_param param_before m.params (CloseParen ∷ returned m a) b)
+    ap (λ ts. spell_marks m.marks (Id m.result ∷ (Id m.name ∷ (OpenParen ∷ ts)))) (method_rest_before m a b)
     ∙ marks_before m.marks (method_words m a) b
 
 -- the members of a class, and its brace
@@ -154,7 +156,7 @@ ctor_roles_before k a b =
 method_param_roles_before : (d : Declared) (a b : List Role) → roles_method_param d (a ++ b) ≡ roles_method_param d a ++ b
 method_param_roles_before d a b = mark_roles_before d.marks (used_name d.of ∷ (method_param_name d.name ∷ a)) b
 
-abbrev returned_roles : MethodTree → List Role → List Role
+abbrev pub returned_roles : MethodTree → List Role → List Role
 returned_roles m rest = plain ∷ (plain ∷ roles_expr 0 m.body (plain ∷ (plain ∷ rest)))
 
 abbrev method_word_roles : MethodTree → List Role → List Role
@@ -163,10 +165,12 @@ method_word_roles m rest = used_name m.result ∷ (method_name m.name ∷ (plain
 returned_roles_before : (m : MethodTree) (a b : List Role) → returned_roles m (a ++ b) ≡ returned_roles m a ++ b
 returned_roles_before m a b = ap (λ rs. plain ∷ (plain ∷ rs)) (sym (expression.roles_before 0 m.body (plain ∷ (plain ∷ a)) b))
 
+pub method_rest_roles_before : (m : MethodTree) (a b : List Role) → separated plain roles_method_param m.params (plain ∷ returned_roles m (a ++ b)) ≡ separated plain roles_method_param m.params (plain ∷ returned_roles m a) ++ b
+method_rest_roles_before m a b = ap (λ rs. separated plain roles_method_param m.params (plain ∷ rs)) (returned_roles_before m a b) ∙ separated_before plain roles_method_param method_param_roles_before m.params (plain ∷ returned_roles m a) b
+
 pub method_roles_before : (m : MethodTree) (a b : List Role) → roles_method m (a ++ b) ≡ roles_method m a ++ b
 method_roles_before m a b =
-    ap (λ rs. roles_marks m.marks (used_name m.result ∷ (method_name m.name ∷ (plain ∷ rs))))
-    (ap (λ rs. separated plain roles_method_param m.params (plain ∷ rs)) (returned_roles_before m a b) ∙ separated_before plain roles_method_param method_param_roles_before m.params (plain ∷ returned_roles m a) b)
+    ap (λ rs. roles_marks m.marks (used_name m.result ∷ (method_name m.name ∷ (plain ∷ rs)))) (method_rest_roles_before m a b)
     ∙ mark_roles_before m.marks (method_word_roles m a) b
 
 abbrev member_roles : ClassTree → List Role → List Role

@@ -29,7 +29,6 @@ use Rattle.fj_parser.proofs.SingleParts.{Overlap, within, beyond, overlap, part_
 use Rattle.fj_parser.proofs.Spelled.{field_before, field_roles_before, field_settled}
 use Rattle.fj_parser.proofs.Standing.{Stands, each_once, is_declaring}
 
--- a field's machine
 module _ (features : List (List ℕ)) where
   abbrev field_run_of : List Token → State → Run State
   field_run_of = part_run goal.Field features unnamed

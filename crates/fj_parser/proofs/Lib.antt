@@ -15,6 +15,8 @@ pub mod KeptNames
 pub mod Law
 pub mod LexedTokens
 pub mod ListsSound
+pub mod MemberHeads
+pub mod MemberLaw
 pub mod MembersSound
 pub mod MethodLaw
 pub mod MethodRuns

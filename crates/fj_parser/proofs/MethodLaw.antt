@@ -21,7 +21,7 @@ use Rattle.fj_parser.specs.Readers.{Run, then_run, run_of}
 use Rattle.fj_parser.proofs.Complete.{with_roles, in_methods, method_rest, behind_head, method_run}
 use Rattle.fj_parser.proofs.Law.{end_at_open, end_stops}
 use Rattle.fj_parser.proofs.ListsSound.{is_whole, Accepts, never}
-use Rattle.fj_parser.proofs.MethodRuns.{rest_read}
+use Rattle.fj_parser.proofs.MethodRuns.{no_end_first, rest_read}
 use Rattle.fj_parser.proofs.MethodsSound.{methods_text, Methods, methods_read}
 use Rattle.fj_parser.proofs.Naming.{Kept, GoesIn, some_name, some_name_is, name_goes, name_stops}
 use Rattle.fj_parser.proofs.SingleParts.{is_inside, part_run, IsSameInside, first_state, Path, Goes, on, aside, Position, alone, positioned, once_aside, EndsBy, as_project, but_goes, IsPart, AsideAtEnd, path_to_end, part_laws, part_stands, end_state}
@@ -132,15 +132,6 @@ module _ (features : List (List ℕ)) where
 
   abbrev MethodPosition : List Token → List Token → State → List Role → Type 0
   MethodPosition = Position goal.Method features unnamed (single_methods features) behind_method
-
-  -- behind a method nothing but the end is read
-  no_end_first : (ms : List MethodTree) (rest ts : List Token) → methods_text ms rest ≡ End ∷ ts → ⊥
-  no_end_first [] rest ts e = cc e
-  no_end_first (m ∷ ms) rest ts e = go m.marks e
-    where
-      go : (ws : List (List ℕ)) → spell_marks ws (Id m.result ∷ (Id m.name ∷ (OpenParen ∷ method_rest m (methods_text ms rest)))) ≡ End ∷ ts → ⊥
-      go [] e = cc e
-      go (w ∷ ws) e = cc e
 
   position : (front more : List Token) (s : State) (rs : List Role) → method_run_of front begin ≡ (Some s, rs) → run front begin ≡ (Some s, rs) → Accepts (front ++ more) begin → MethodPosition front more s rs
   unfolding run_of

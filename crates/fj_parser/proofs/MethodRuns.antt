@@ -6,7 +6,7 @@ use Rattle.cfj_model.specs.ExpressionGrammar.{ExprTree, spell_expr, roles_expr, 
 use Rattle.cfj_model.specs.Grammar.{Declared, MethodTree, spell_param, value_method}
 use Rattle.cfj_model.specs.Marks.{each_behind, separated, spell_marks, color_of}
 use Rattle.cfj_model.specs.Roles.{Role, plain}
-use Rattle.cfj_model.specs.Tokens.{Token, Id, ReturnWord, OpenBrace, CloseBrace, CloseParen, Semicolon, Comma, At}
+use Rattle.cfj_model.specs.Tokens.{Token, Id, ReturnWord, OpenBrace, CloseBrace, OpenParen, CloseParen, Semicolon, Comma, At, End}
 use Rattle.expression_reader.specs.Machine as expression
 use Rattle.expression_reader.proofs.Complete.{text_runs}
 use Rattle.fj_parser.specs.declared.goal.Goal.{Goal}
@@ -19,6 +19,7 @@ use Rattle.fj_parser.specs.Machine.{State, with_method, after_expression, in_exp
 use Rattle.fj_parser.specs.Readers.{Run, run_of}
 use Rattle.fj_parser.proofs.Complete.{with_roles, at_again, in_params, after_param_comma, after_param, after_params, with_a_param, in_methods, method_rest, roles_method_rest, behind_head, method_rest_run}
 use Rattle.fj_parser.proofs.Expressions.{unread_none, some_same, end_of_run, in_body, expression_text}
+use Rattle.fj_parser.proofs.MethodsSound.{methods_text}
 use Rattle.fj_parser.proofs.Readers.{on_from}
 use Rattle.fj_parser.proofs.SingleParts.{OfSome, Stays, part_run, IsSameInside, stays_run}
 use Rattle.fj_parser.proofs.Spelled.{method_rest_before, method_rest_roles_before}
@@ -82,6 +83,17 @@ method_rest_stays : (m : MethodTree) (colors : ℕ) (s : State) → Stays (metho
 method_rest_stays m colors s =
     let n : State = record (in_methods s) { method_colors = colors; result_type = m.result; method = m.name } in
     params_stay m.params (OpenBrace ∷ (ReturnWord ∷ spell_expr m.body (Semicolon ∷ (CloseBrace ∷ [])))) n (λ ps. (refl, (refl, body_stays m.body (record n { params = ps }))))
+
+-- ---- methods
+
+-- the text of methods and what follows it never begins with the end
+pub no_end_first : (ms : List MethodTree) (rest ts : List Token) → methods_text ms rest ≡ End ∷ ts → ⊥
+no_end_first [] rest ts e = cc e
+no_end_first (m ∷ ms) rest ts e = go m.marks e
+  where
+    go : (ws : List (List ℕ)) → spell_marks ws (Id m.result ∷ (Id m.name ∷ (OpenParen ∷ method_rest m (methods_text ms rest)))) ≡ End ∷ ts → ⊥
+    go [] e = cc e
+    go (w ∷ ws) e = cc e
 
 -- ---- the part's run
 

@@ -415,21 +415,40 @@ module _ (g : Goal) (fs : List (List ℕ)) (class : List ℕ) where
                 in_roles = part.grammar.gives x [] (plain ∷ []) ∙ ap (λ q. q ++ plain ∷ []) w.1 ∙ append_assoc rs (pending s ++ w.0) (plain ∷ []) ∙ ap (λ q. rs ++ q) (append_assoc (pending s) w.0 (plain ∷ []));
               }
 
-      pub path_to_end : ((s n : State) (t : Token) → step_for g s.mode s t ≡ Some n → Goes AsideAtEnd s t n) → (front : List Token) (s : State) (rs : List Role) → part_run front first_state ≡ (Some s, rs) → Path front s rs
+      -- behind the end
+      pub ended_path : (front us vs : List Token) (s x n : State) (qs rs : List Role) → front ≡ us ++ End ∷ vs → part_run us first_state ≡ (Some x, qs) → run us first_state ≡ (Some x, qs) → step_for g x.mode x End ≡ Some n → n.mode ≡ AtEnd → (part_run vs n).0 ≡ Some s → Path front s rs
+      ended_path front us vs s x n qs rs text own ran goes at rest =
+          let tree = sound_inside us x n qs own ran goes in
+          ended tree.0 (text ∙ ap (λ w. us ++ End ∷ w) (last vs rest) ∙ ap (λ w. w ++ End ∷ []) tree.1 ∙ sym (part.grammar.spells tree.0 [] (End ∷ [])))
+        where
+          last : (vs : List Token) → (part_run vs n).0 ≡ Some s → vs ≡ []
+          last [] k = refl
+          last (v ∷ vs) k = absurd (stuck v vs n s (ap (λ m. step_for g m n v) at ∙ part.stops n v) k)
+
+      -- behind a whole text
+      pub behind_path : (front vs : List Token) (s : State) (rs : List Role) (x : l.Tree) → front ≡ l.spell x vs → (part_run vs (part.done x)).0 ≡ Some s → Path front s rs
       unfolding run_of
+      behind_path front [] s rs x text k = behind x text
+      behind_path front (v ∷ vs) s rs x text k = by (step_for g (part.done x).mode (part.done x) v) refl k
+        where
+          last : (vs : List Token) → (part_run vs (at_end x)).0 ≡ Some s → vs ≡ []
+          last [] k = refl
+          last (v ∷ vs) k = absurd (stuck v vs (at_end x) s (part.stops (at_end x) v) k)
+
+          by : (o : Option State) → step_for g (part.done x).mode (part.done x) v ≡ o → (then_run (part_run vs) (emitted (part.done x) v) o).0 ≡ Some s → Path front s rs
+          by None e k = absurd (none-some s k)
+          by (Some n) e k =
+              let end : v ≡ End = part.only_end x n v e in
+              let next : n ≡ at_end x = same_Some n (at_end x) (sym e ∙ ap (step_for g (part.done x).mode (part.done x)) end ∙ part.ends x) in
+              let none : vs ≡ [] = last vs (ap (λ y. (part_run vs y).0) (sym next) ∙ k) in
+              ended x (text ∙ ap (λ u. l.spell x (u ∷ vs)) end ∙ ap (λ w. l.spell x (End ∷ w)) none)
+
+      pub path_to_end : ((s n : State) (t : Token) → step_for g s.mode s t ≡ Some n → Goes AsideAtEnd s t n) → (front : List Token) (s : State) (rs : List Role) → part_run front first_state ≡ (Some s, rs) → Path front s rs
       path_to_end goes front s rs h = by (strays AsideAtEnd goes front first_state s rs h)
         where
-          last : (vs : List Token) (n : State) → n.mode ≡ AtEnd → (part_run vs n).0 ≡ Some s → vs ≡ []
-          last [] n at k = refl
-          last (v ∷ vs) n at k = absurd (stuck v vs n s (ap (λ m. step_for g m n v) at ∙ part.stops n v) k)
-
           by : Strays AsideAtEnd front first_state s rs → Path front s rs
           by (along ran) = inside ran
-          by (off us t vs x n qs is ran own a next rest) =
-              let end : step_for g x.mode x End ≡ Some n = ap (step_for g x.mode x) (sym a.0) ∙ next in
-              let tree = sound_inside us x n qs own ran end in
-              let text : front ≡ us ++ End ∷ [] = is ∙ ap (λ u. us ++ u ∷ vs) a.0 ∙ ap (λ w. us ++ End ∷ w) (last vs n a.1 rest) in
-              ended tree.0 (text ∙ ap (λ w. w ++ End ∷ []) tree.1 ∙ sym (part.grammar.spells tree.0 [] (End ∷ [])))
+          by (off us t vs x n qs is ran own a next rest) = ended_path front us vs s x n qs rs (is ∙ ap (λ u. us ++ u ∷ vs) a.0) own ran (ap (step_for g x.mode x) (sym a.0) ∙ next) a.1 rest
 
     -- A part, and how each of its runs stands.
     module _ (part : IsPart) (path : (front : List Token) (s : State) (rs : List Role) → part_run front first_state ≡ (Some s, rs) → Path front s rs) where

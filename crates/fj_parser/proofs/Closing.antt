@@ -118,7 +118,7 @@ closing AfterBody s = assigns_end
 closing AtEnd s = []
 
 -- a class with no constructor yet is completed by one of its name
-ctor_closes : (s : State) → Reaches AtEnd (run (ctor_end s.name) (record s { mode = InMembers })).0
+pub ctor_closes : (s : State) → Reaches AtEnd (run (ctor_end s.name) (record s { mode = InMembers })).0
 unfolding run_of ctor_end params_end body_end sends_end assigns_end methods_end
 ctor_closes s = let_through (bytes_eq s.name s.name) (run (params_end owner.Constructor)) (plain ∷ []) (record s { mode = InParams owner.Constructor; of = unnamed }) (same_name s.name) refl
 

@@ -47,7 +47,7 @@ numbered_on f before x xs =
 -- ---- marks
 
 -- behind the marks of any node another may follow
-at_again : (n : Node) (s : State) → step_in (AfterMark n) s At ≡ to (AfterAt n) s
+pub at_again : (n : Node) (s : State) → step_in (AfterMark n) s At ≡ to (AfterAt n) s
 at_again node.Class s = refl
 at_again node.Member s = refl
 at_again node.Method s = refl
@@ -71,7 +71,7 @@ first_mark_run n m ms ts s = ap (with_role (mark_name m)) (marks_run n ms ts (re
 -- ---- a class's parts
 
 -- the states between the items of each list
-abbrev in_members : State → State
+abbrev pub in_members : State → State
 in_members s = record s { mode = InMembers; colors = 0; of = unnamed; last = unnamed }
 
 abbrev pub in_params : Owner → State → State
@@ -115,7 +115,7 @@ abbrev pub with_an_assign : State → Named → State
 with_an_assign s d = record s { assigns = s.assigns ++ value_sent s.features (length s.assigns) d ∷ [] }
 
 -- a field with these marks
-field_run : (ms : List (List ℕ)) (of name : List ℕ) (ts : List Token) (s : State) → run (spell_field (record { marks = ms; of = of; name = name }) ts) (in_members s) ≡ with_roles (roles_field (record { marks = ms; of = of; name = name })) (run ts (in_members (with_a_field s (record { marks = ms; of = of; name = name }))))
+pub field_run : (ms : List (List ℕ)) (of name : List ℕ) (ts : List Token) (s : State) → run (spell_field (record { marks = ms; of = of; name = name }) ts) (in_members s) ≡ with_roles (roles_field (record { marks = ms; of = of; name = name })) (run ts (in_members (with_a_field s (record { marks = ms; of = of; name = name }))))
 unfolding run_of
 field_run [] of name ts s = refl
 field_run (m ∷ ms) of name ts s = ap (with_role plain) (first_mark_run node.Member m ms (Id of ∷ (Id name ∷ (Semicolon ∷ ts))) (in_members s))
@@ -269,14 +269,21 @@ method_rest m ts = separated Comma spell_param m.params (CloseParen ∷ (OpenBra
 abbrev pub roles_method_rest : MethodTree → List Role → List Role
 roles_method_rest m rs = separated plain roles_method_param m.params (plain ∷ (plain ∷ (plain ∷ roles_expr 0 m.body (plain ∷ (plain ∷ rs)))))
 
+-- a method behind its head, with its colours in hand
+abbrev pub behind_head : State → ℕ → List ℕ → List ℕ → State
+behind_head s colors result name = in_params owner.Method (record (in_methods s) { method_colors = colors; result_type = result; method = name })
+
+pub method_rest_run : (m : MethodTree) (colors : ℕ) (ts : List Token) (s : State) → run (method_rest m ts) (behind_head s colors m.result m.name) ≡ with_roles (roles_method_rest m) (run ts (in_methods (record s { methods = s.methods ++ record (value_method s.features m) { colors = colors } ∷ [] })))
+unfolding run_of
+method_rest_run m colors ts s =
+    let n : State = record (in_methods s) { method_colors = colors; result_type = m.result; method = m.name } in
+    params_run owner.Method m.params (OpenBrace ∷ (ReturnWord ∷ spell_expr m.body (Semicolon ∷ (CloseBrace ∷ ts)))) n
+    ∙ ap (with_roles (λ rs. separated plain roles_method_param m.params (plain ∷ (plain ∷ (plain ∷ rs))))) (expression_tree_runs m.body (CloseBrace ∷ ts) (record n { params = numbered (value_param s.features) 0 m.params }))
+
 -- a method's words behind the first, with its colours in hand
 method_words_run : (m : MethodTree) (colors : ℕ) (ts : List Token) (s : State) → run (Id m.name ∷ (OpenParen ∷ method_rest m ts)) (record (in_methods s) { mode = AfterResult; colors = colors; of = m.result }) ≡ with_roles (λ rs. method_name m.name ∷ (plain ∷ roles_method_rest m rs)) (run ts (in_methods (record s { methods = s.methods ++ record (value_method s.features m) { colors = colors } ∷ [] })))
 unfolding run_of
-method_words_run m colors ts s =
-    let n : State = record (in_methods s) { method_colors = colors; result_type = m.result; method = m.name } in
-    ap (with_roles (λ rs. method_name m.name ∷ (plain ∷ rs)))
-    (params_run owner.Method m.params (OpenBrace ∷ (ReturnWord ∷ spell_expr m.body (Semicolon ∷ (CloseBrace ∷ ts)))) n
-    ∙ ap (with_roles (λ rs. separated plain roles_method_param m.params (plain ∷ (plain ∷ (plain ∷ rs))))) (expression_tree_runs m.body (CloseBrace ∷ ts) (record n { params = numbered (value_param s.features) 0 m.params })))
+method_words_run m colors ts s = ap (with_roles (λ rs. method_name m.name ∷ (plain ∷ rs))) (method_rest_run m colors ts s)
 
 -- a method's marks and its first word
 method_marks_run : (ms : List (List ℕ)) (w : List ℕ) (ts : List Token) (s : State) → run (spell_marks ms (Id w ∷ ts)) (in_methods s) ≡ with_roles (λ rs. roles_marks ms (used_name w ∷ rs)) (run ts (record (in_methods s) { mode = AfterResult; colors = colors_of s.features ms; of = w }))

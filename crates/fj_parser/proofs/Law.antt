@@ -34,7 +34,7 @@ use Rattle.fj_parser.proofs.Standing.{reached, waiting_settled, each_once}
 -- ---- what is read to the end is a text
 
 -- a run that reaches a mode in which a text may stop
-reach_stops : (m : Mode) (o : Option State) → is_whole_in m ≡ true → Reaches m o → is_whole o ≡ true
+pub reach_stops : (m : Mode) (o : Option State) → is_whole_in m ≡ true → Reaches m o → is_whole o ≡ true
 reach_stops m None e h = absurd h
 reach_stops m (Some n) e h = ap is_whole_in h ∙ e
 
@@ -56,14 +56,14 @@ closed_text ts h = let t = text_of ts (reach_stops AtEnd (run ts start).0 refl h
         not_at_end x.features x.constraints x.classes e
 
 -- a text that is read so far may end in this mode
-abbrev may_end : Mode → Bool
+abbrev pub may_end : Mode → Bool
 may_end Begin = true
 may_end Start = true
 may_end BetweenClasses = true
 may_end _ = false
 
 -- and may stop there
-end_stops : (m : Mode) → may_end m ≡ true → is_whole_in m ≡ true
+pub end_stops : (m : Mode) → may_end m ≡ true → is_whole_in m ≡ true
 end_stops Begin e = refl
 end_stops Start e = refl
 end_stops BetweenClasses e = refl
@@ -104,7 +104,7 @@ no_end_in_expression : (s n : State) → step_in InExpression s End ≡ Some n �
 no_end_in_expression s n h = none-some n (ap (in_expression s) (sym (expression_refuses_end s.features s.expression)) ∙ h)
 
 -- only there does the machine take the end
-end_at_open : (m : Mode) (s n : State) → step_in m s End ≡ Some n → may_end m ≡ true
+pub end_at_open : (m : Mode) (s n : State) → step_in m s End ≡ Some n → may_end m ≡ true
 end_at_open Begin s n h = refl
 end_at_open Start s n h = refl
 end_at_open BetweenClasses s n h = refl

@@ -14,6 +14,7 @@ pub mod CountedRoles
 pub mod Exact
 pub mod ExpressionLaw
 pub mod Expressions
+pub mod FieldLaw
 pub mod FirstFault
 pub mod GoalRuns
 pub mod Kept
@@ -22,7 +23,11 @@ pub mod KeptNames
 pub mod Law
 pub mod LexedTokens
 pub mod ListsSound
+pub mod MemberHeads
+pub mod MemberLaw
 pub mod MembersSound
+pub mod MethodLaw
+pub mod MethodRuns
 pub mod MethodsSound
 pub mod ModelLaw
 pub mod NameLaw
@@ -32,6 +37,7 @@ pub mod Parts
 pub mod Places
 pub mod Progress
 pub mod Readers
+pub mod SingleParts
 pub mod Sound
 pub mod Spelled
 pub mod Standing

@@ -249,10 +249,10 @@ module _ (g : Goal) (fs : List (List ℕ)) (class : List ℕ) where
           behind e (along k) = along (ap (then_run (run ts) (emitted from t)) e ∙ ap (with_roles (emitted from t)) k ∙ ap (λ (q : List Role). (Some s, q)) all)
           behind e (off us u vs y n qs is ran own a next rest) =
               off (t ∷ us) u vs y n (emitted from t ++ qs)
-                  (ap (λ w. t ∷ w) is)
-                  (ap (then_run (run us) (emitted from t)) e ∙ ap (with_roles (emitted from t)) ran)
-                  (ap (then_run (part_run us) (emitted from t)) steps ∙ ap (with_roles (emitted from t)) own)
-                  a next rest
+              (ap (λ w. t ∷ w) is)
+              (ap (then_run (run us) (emitted from t)) e ∙ ap (with_roles (emitted from t)) ran)
+              (ap (then_run (part_run us) (emitted from t)) steps ∙ ap (with_roles (emitted from t)) own)
+              a next rest
 
           by : Goes Aside from t x → Strays Aside (t ∷ ts) from s rs
           by (on e) = behind e (ih x (ap (λ o. (o, (part_run ts x).1)) reaches))

@@ -23,7 +23,8 @@ use Rattle.fj_parser.proofs.Law.{reach_stops, end_at_open, end_stops}
 use Rattle.fj_parser.proofs.ListsSound.{is_whole, Accepts, never}
 use Rattle.fj_parser.proofs.MembersSound.{CtorTree, members_text, ReadMembers, members_read}
 use Rattle.fj_parser.proofs.Naming.{Kept, GoesIn, some_name, some_name_is, name_goes, name_stops}
-use Rattle.fj_parser.proofs.SingleParts.{part_run, first_state, Path, Goes, on, aside, Position, alone, positioned, once_aside, EndsBy, as_project, but_goes, IsPart, AsideAtEnd, path_to_end, part_laws, part_stands, end_state}
+use Rattle.fj_parser.proofs.SingleLaws.{first_state, Path, Position, alone, positioned, EndsBy, as_project, but_goes, IsPart, path_to_end, part_laws, part_stands, end_state}
+use Rattle.fj_parser.proofs.SingleParts.{part_run, Goes, on, aside, once_aside, AsideAtEnd}
 use Rattle.fj_parser.proofs.Spelled.{field_before, field_roles_before, field_settled}
 use Rattle.fj_parser.proofs.Standing.{Stands, each_once, is_declaring}
 

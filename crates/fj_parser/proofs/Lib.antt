@@ -25,6 +25,7 @@ pub mod Naming
 pub mod Parts
 pub mod Progress
 pub mod Readers
+pub mod SingleLaws
 pub mod SingleParts
 pub mod Sound
 pub mod Spelled

@@ -18,7 +18,8 @@ use Rattle.fj_parser.specs.Machine.{unnamed, State, after_expression, in_express
 use Rattle.fj_parser.specs.Readers.{Run, then_run, run_of}
 use Rattle.fj_parser.proofs.Complete.{with_roles}
 use Rattle.fj_parser.proofs.ListsSound.{never}
-use Rattle.fj_parser.proofs.SingleParts.{OfSome, part_run, first_state}
+use Rattle.fj_parser.proofs.SingleLaws.{first_state}
+use Rattle.fj_parser.proofs.SingleParts.{OfSome, part_run}
 
 -- ---- behind the bracket of a method's head
 

@@ -26,7 +26,8 @@ use Rattle.fj_parser.proofs.MemberHeads.{member_run_of, begin, head_read, Head, 
 use Rattle.fj_parser.proofs.MethodRuns.{no_end_first, rest_read}
 use Rattle.fj_parser.proofs.MethodsSound.{methods_text, Methods, methods_read}
 use Rattle.fj_parser.proofs.Naming.{Kept, GoesIn, some_name, some_name_is, name_goes, name_stops}
-use Rattle.fj_parser.proofs.SingleParts.{IsSameInside, Strays, along, off, strays, Path, inside, Goes, on, aside, Position, alone, positioned, once_aside, EndsBy, as_project, but_goes, IsPart, AsideAtEnd, ended_path, behind_path, part_laws, part_stands, end_state}
+use Rattle.fj_parser.proofs.SingleLaws.{Path, inside, Position, alone, positioned, EndsBy, as_project, but_goes, IsPart, ended_path, behind_path, part_laws, part_stands, end_state}
+use Rattle.fj_parser.proofs.SingleParts.{IsSameInside, Strays, along, off, strays, Goes, on, aside, once_aside, AsideAtEnd}
 use Rattle.fj_parser.proofs.Spelled.{field_before, method_before, mark_roles_before, method_roles_before, marks_settled, method_settled}
 use Rattle.fj_parser.proofs.Standing.{Stands, each_once, is_declaring}
 

@@ -24,7 +24,8 @@ use Rattle.fj_parser.proofs.ListsSound.{is_whole, Accepts, never}
 use Rattle.fj_parser.proofs.MethodRuns.{no_end_first, rest_read}
 use Rattle.fj_parser.proofs.MethodsSound.{methods_text, Methods, methods_read}
 use Rattle.fj_parser.proofs.Naming.{Kept, GoesIn, some_name, some_name_is, name_goes, name_stops}
-use Rattle.fj_parser.proofs.SingleParts.{part_run, IsSameInside, first_state, Path, Goes, on, aside, Position, alone, positioned, once_aside, EndsBy, as_project, but_goes, IsPart, AsideAtEnd, path_to_end, part_laws, part_stands, end_state}
+use Rattle.fj_parser.proofs.SingleLaws.{first_state, Path, Position, alone, positioned, EndsBy, as_project, but_goes, IsPart, path_to_end, part_laws, part_stands, end_state}
+use Rattle.fj_parser.proofs.SingleParts.{part_run, IsSameInside, Goes, on, aside, once_aside, AsideAtEnd}
 use Rattle.fj_parser.proofs.Spelled.{method_before, method_roles_before, method_settled}
 use Rattle.fj_parser.proofs.Standing.{Stands, each_once, is_declaring}
 

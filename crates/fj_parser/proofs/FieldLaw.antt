@@ -1,14 +1,12 @@
 -- The laws of the machine for single fields.
-use Rattle.std.proofs.Common.{◌≡◌, ℕ, suc, Bool, true, false, List, [], ◌∷◌, ◌++◌, ◌+◌, length, bit_or, Option, Some, None, refl, sym, ◌∙◌, ap, subst, arith}
+use Rattle.std.proofs.Common.{◌≡◌, ℕ, suc, true, false, List, [], ◌∷◌, ◌++◌, ◌+◌, length, bit_or, Some, None, refl, sym, ◌∙◌, ap, subst, arith}
 use Rattle.std.proofs.lemmas.Option.{none-some, same_Some}
-use Rattle.std.specs.Str.{bytes_eq}
 use Rattle.cfj_model.specs.declared.class.Field.{Field}
-use Rattle.cfj_model.specs.Grammar.{Declared, spell_field, spell_ctor, value_field}
-use Rattle.cfj_model.specs.Marks.{in_order, spell_marks, roles_mark, roles_marks, color_of, colored}
-use Rattle.cfj_model.specs.Roles.{Role, used_name, plain}
+use Rattle.cfj_model.specs.Grammar.{Declared, spell_field, value_field}
+use Rattle.cfj_model.specs.Marks.{spell_marks, roles_mark, roles_marks, color_of, colored}
+use Rattle.cfj_model.specs.Roles.{Role, used_name}
 use Rattle.cfj_model.specs.Tokens.{Token, Id, OpenParen, Semicolon, At, End}
 use Rattle.cfj_model.specs.TreeRoles.{roles_field}
-use Rattle.expression_reader.specs.Machine as expression
 use Rattle.fj_parser.specs.declared.goal.Goal.TheVariants as goal
 use Rattle.fj_parser.specs.declared.mode.Owner.TheVariants as owner
 use Rattle.fj_parser.specs.declared.mode.Node.TheVariants as node
@@ -17,15 +15,16 @@ use Rattle.fj_parser.specs.declared.mode.Mode.TheVariants.{AfterMark, InMembers,
 use Rattle.fj_parser.specs.Goals.{none_yet, start_for, field_or_end, step_for, takes_name_for, reader_for}
 use Rattle.fj_parser.specs.Languages.{single_fields}
 use Rattle.fj_parser.specs.Laws.{Closes, GoesByName, IsPlainLanguage, Reads}
-use Rattle.fj_parser.specs.Machine.{unnamed, State, behind, step_in, step, emitted, pending, run}
-use Rattle.fj_parser.specs.Readers.{Run, then_run, run_of}
+use Rattle.fj_parser.specs.Machine.{unnamed, State, behind, step_in, emitted, pending, run}
+use Rattle.fj_parser.specs.Readers.{Run, run_of}
 use Rattle.fj_parser.proofs.Closing.{params_end, ctor_end, ctor_closes}
-use Rattle.fj_parser.proofs.Complete.{with_roles, in_members, field_run}
+use Rattle.fj_parser.proofs.Complete.{with_roles, field_run}
 use Rattle.fj_parser.proofs.Law.{reach_stops, end_at_open, end_stops}
 use Rattle.fj_parser.proofs.ListsSound.{is_whole, Accepts, never}
-use Rattle.fj_parser.proofs.MembersSound.{class_with, CtorTree, members_text, ReadMembers, members_read}
+use Rattle.fj_parser.proofs.MembersSound.{CtorTree, members_text, ReadMembers, members_read}
 use Rattle.fj_parser.proofs.Naming.{Kept, GoesIn, some_name, some_name_is, name_goes, name_stops}
-use Rattle.fj_parser.proofs.SingleParts.{Overlap, within, beyond, overlap, part_run, first_state, Path, Goes, on, aside, Position, alone, begun, positioned, once_aside, EndsBy, as_project, but_goes, IsPart, AsideAtEnd, path_to_end, part_laws, part_stands, end_state}
+use Rattle.fj_parser.proofs.SingleLaws.{first_state, Path, Position, alone, positioned, EndsBy, as_project, but_goes, IsPart, path_to_end, part_laws, part_stands, end_state}
+use Rattle.fj_parser.proofs.SingleParts.{part_run, Goes, on, aside, once_aside, AsideAtEnd}
 use Rattle.fj_parser.proofs.Spelled.{field_before, field_roles_before, field_settled}
 use Rattle.fj_parser.proofs.Standing.{Stands, each_once, is_declaring}
 
@@ -92,7 +91,6 @@ module _ (features : List (List ℕ)) where
   only_end : (d : Declared) (n : State) (t : Token) → step_for goal.Field (behind_field d).mode (behind_field d) t ≡ Some n → t ≡ End
   only_end d n End h = refl
   only_end d n _ h = absurd (let no : ⊥ = cc h in no)
-
 
   -- where the end is taken aside a field was read, and the machine for projects reads a constructor
   ends_by : (s n : State) → step_for goal.Field s.mode s End ≡ Some n → FieldEnds s

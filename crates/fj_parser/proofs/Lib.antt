@@ -37,6 +37,7 @@ pub mod Parts
 pub mod Places
 pub mod Progress
 pub mod Readers
+pub mod SingleLaws
 pub mod SingleParts
 pub mod Sound
 pub mod Spelled

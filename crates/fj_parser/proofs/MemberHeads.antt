@@ -5,7 +5,7 @@ use Rattle.cfj_model.specs.declared.class.Field.{Field}
 use Rattle.cfj_model.specs.declared.class.Method.{Method}
 use Rattle.cfj_model.specs.declared.expr.Expr.{Expr}
 use Rattle.cfj_model.specs.Marks.{spell_marks, spell_mark, roles_mark, roles_marks, color_of, colored, colors_of}
-use Rattle.cfj_model.specs.Roles.{Role, method_name, used_name, plain}
+use Rattle.cfj_model.specs.Roles.{method_name, used_name}
 use Rattle.cfj_model.specs.Tokens.{Token, Id, ReturnWord, OpenBrace, CloseBrace, OpenParen, CloseParen, Semicolon, Comma, At, End}
 use Rattle.expression_reader.specs.Machine as expression
 use Rattle.fj_parser.specs.declared.goal.Goal.TheVariants as goal
@@ -18,7 +18,8 @@ use Rattle.fj_parser.specs.Machine.{unnamed, State, after_expression, in_express
 use Rattle.fj_parser.specs.Readers.{Run, then_run, run_of}
 use Rattle.fj_parser.proofs.Complete.{with_roles}
 use Rattle.fj_parser.proofs.ListsSound.{never}
-use Rattle.fj_parser.proofs.SingleParts.{OfSome, part_run, first_state}
+use Rattle.fj_parser.proofs.SingleLaws.{first_state}
+use Rattle.fj_parser.proofs.SingleParts.{OfSome, part_run}
 
 -- ---- behind the bracket of a method's head
 

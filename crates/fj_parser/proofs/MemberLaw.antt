@@ -1,5 +1,5 @@
 -- The laws of the machine for single members: fields and methods.
-use Rattle.std.proofs.Common.{◌≡◌, ℕ, suc, Bool, true, false, ◌&&◌, List, [], ◌∷◌, ◌++◌, ◌+◌, length, Option, Some, None, refl, sym, ◌∙◌, ap, subst, arith}
+use Rattle.std.proofs.Common.{◌≡◌, ℕ, suc, true, false, ◌&&◌, List, [], ◌∷◌, ◌++◌, ◌+◌, length, Some, None, refl, sym, ◌∙◌, ap, subst, arith}
 use Rattle.std.proofs.lemmas.Option.{none-some, same_Some}
 use Rattle.cfj_model.specs.declared.class.Field.{Field}
 use Rattle.cfj_model.specs.declared.class.Method.{Method}
@@ -17,16 +17,17 @@ use Rattle.fj_parser.specs.declared.mode.Mode.TheVariants.{InMethods, AfterMetho
 use Rattle.fj_parser.specs.Goals.{none_yet, start_for, method_or_end, member_or_end, with_single_field, step_for, takes_name_for, reader_for}
 use Rattle.fj_parser.specs.Languages.{MemberTree, a_field, a_method, spell_member, roles_member, single_members}
 use Rattle.fj_parser.specs.Laws.{Closes, GoesByName, IsPlainLanguage, Reads}
-use Rattle.fj_parser.specs.Machine.{unnamed, State, behind, step_in, step, emitted, pending, run}
+use Rattle.fj_parser.specs.Machine.{unnamed, State, behind, step_in, emitted, pending, run}
 use Rattle.fj_parser.specs.Readers.{Run, then_run, run_of}
 use Rattle.fj_parser.proofs.Complete.{with_roles, method_rest, method_run}
 use Rattle.fj_parser.proofs.Law.{end_at_open, end_stops}
 use Rattle.fj_parser.proofs.ListsSound.{is_whole, Accepts, never}
-use Rattle.fj_parser.proofs.MemberHeads.{member_run_of, begin, behind_name, head_read, Head, head_of}
+use Rattle.fj_parser.proofs.MemberHeads.{member_run_of, begin, head_read, Head, head_of}
 use Rattle.fj_parser.proofs.MethodRuns.{no_end_first, rest_read}
 use Rattle.fj_parser.proofs.MethodsSound.{methods_text, Methods, methods_read}
 use Rattle.fj_parser.proofs.Naming.{Kept, GoesIn, some_name, some_name_is, name_goes, name_stops}
-use Rattle.fj_parser.proofs.SingleParts.{is_inside, IsSameInside, Strays, along, off, strays, Path, inside, Goes, on, aside, Position, alone, positioned, once_aside, EndsBy, as_project, but_goes, IsPart, AsideAtEnd, ended_path, behind_path, part_laws, part_stands, end_state}
+use Rattle.fj_parser.proofs.SingleLaws.{Path, inside, Position, alone, positioned, EndsBy, as_project, but_goes, IsPart, ended_path, behind_path, part_laws, part_stands, end_state}
+use Rattle.fj_parser.proofs.SingleParts.{IsSameInside, Strays, along, off, strays, Goes, on, aside, once_aside, AsideAtEnd}
 use Rattle.fj_parser.proofs.Spelled.{field_before, method_before, mark_roles_before, method_roles_before, marks_settled, method_settled}
 use Rattle.fj_parser.proofs.Standing.{Stands, each_once, is_declaring}
 

@@ -1,9 +1,9 @@
 -- The laws of the machine for single methods.
-use Rattle.std.proofs.Common.{◌≡◌, ℕ, suc, Bool, true, false, List, [], ◌∷◌, ◌++◌, ◌+◌, length, bit_or, Option, Some, None, refl, sym, ◌∙◌, ap, subst, arith}
+use Rattle.std.proofs.Common.{◌≡◌, ℕ, suc, true, false, List, [], ◌∷◌, ◌++◌, ◌+◌, length, bit_or, Some, None, refl, sym, ◌∙◌, ap, subst, arith}
 use Rattle.std.proofs.lemmas.Option.{none-some, same_Some}
 use Rattle.cfj_model.specs.declared.class.Method.{Method}
 use Rattle.cfj_model.specs.declared.expr.Expr.TheVariants as expr
-use Rattle.cfj_model.specs.ExpressionGrammar.{ExprTree, chain, variable, stop}
+use Rattle.cfj_model.specs.ExpressionGrammar.{chain, variable, stop}
 use Rattle.cfj_model.specs.Grammar.{MethodTree, spell_method, value_method}
 use Rattle.cfj_model.specs.Marks.{spell_marks, roles_mark, roles_marks, color_of, colored, colors_of}
 use Rattle.cfj_model.specs.Roles.{Role, method_name, used_name, plain}
@@ -12,19 +12,20 @@ use Rattle.cfj_model.specs.TreeRoles.{roles_method}
 use Rattle.fj_parser.specs.declared.goal.Goal.TheVariants as goal
 use Rattle.fj_parser.specs.declared.mode.Node.TheVariants as node
 use Rattle.fj_parser.specs.declared.mode.Mode.{Mode}
-use Rattle.fj_parser.specs.declared.mode.Mode.TheVariants.{Begin, Start, BetweenClasses, InMembers, AfterType, AfterMark, InMethods, AfterMethodName, AtEnd}
+use Rattle.fj_parser.specs.declared.mode.Mode.TheVariants.{AfterMark, InMethods, AtEnd}
 use Rattle.fj_parser.specs.Goals.{none_yet, start_for, method_or_end, step_for, takes_name_for, reader_for}
 use Rattle.fj_parser.specs.Languages.{single_methods}
 use Rattle.fj_parser.specs.Laws.{Closes, GoesByName, IsPlainLanguage, Reads}
-use Rattle.fj_parser.specs.Machine.{unnamed, State, behind, with_class, step_in, step, emitted, pending, run}
+use Rattle.fj_parser.specs.Machine.{unnamed, State, behind, step_in, emitted, pending, run}
 use Rattle.fj_parser.specs.Readers.{Run, then_run, run_of}
-use Rattle.fj_parser.proofs.Complete.{with_roles, in_methods, method_rest, behind_head, method_run}
+use Rattle.fj_parser.proofs.Complete.{with_roles, method_rest, behind_head, method_run}
 use Rattle.fj_parser.proofs.Law.{end_at_open, end_stops}
 use Rattle.fj_parser.proofs.ListsSound.{is_whole, Accepts, never}
 use Rattle.fj_parser.proofs.MethodRuns.{no_end_first, rest_read}
 use Rattle.fj_parser.proofs.MethodsSound.{methods_text, Methods, methods_read}
 use Rattle.fj_parser.proofs.Naming.{Kept, GoesIn, some_name, some_name_is, name_goes, name_stops}
-use Rattle.fj_parser.proofs.SingleParts.{is_inside, part_run, IsSameInside, first_state, Path, Goes, on, aside, Position, alone, positioned, once_aside, EndsBy, as_project, but_goes, IsPart, AsideAtEnd, path_to_end, part_laws, part_stands, end_state}
+use Rattle.fj_parser.proofs.SingleLaws.{first_state, Path, Position, alone, positioned, EndsBy, as_project, but_goes, IsPart, path_to_end, part_laws, part_stands, end_state}
+use Rattle.fj_parser.proofs.SingleParts.{part_run, IsSameInside, Goes, on, aside, once_aside, AsideAtEnd}
 use Rattle.fj_parser.proofs.Spelled.{method_before, method_roles_before, method_settled}
 use Rattle.fj_parser.proofs.Standing.{Stands, each_once, is_declaring}
 

@@ -6,18 +6,18 @@ use Rattle.cfj_model.specs.ExpressionGrammar.{ExprTree, spell_expr, roles_expr, 
 use Rattle.cfj_model.specs.Grammar.{Declared, MethodTree, spell_param, value_method}
 use Rattle.cfj_model.specs.Marks.{each_behind, separated, spell_marks, color_of}
 use Rattle.cfj_model.specs.Roles.{Role, plain}
-use Rattle.cfj_model.specs.Tokens.{Token, Id, ReturnWord, OpenBrace, CloseBrace, OpenParen, CloseParen, Semicolon, Comma, At, End}
+use Rattle.cfj_model.specs.Tokens.{Token, Id, ReturnWord, OpenBrace, CloseBrace, OpenParen, CloseParen, Semicolon, Comma, End}
 use Rattle.expression_reader.specs.Machine as expression
 use Rattle.expression_reader.proofs.Complete.{text_runs}
 use Rattle.fj_parser.specs.declared.goal.Goal.{Goal}
 use Rattle.fj_parser.specs.declared.mode.Owner.TheVariants as owner
 use Rattle.fj_parser.specs.declared.mode.Node.{Node}
 use Rattle.fj_parser.specs.declared.mode.Node.TheVariants as node
-use Rattle.fj_parser.specs.declared.mode.Mode.TheVariants.{AfterMark, InExpression}
+use Rattle.fj_parser.specs.declared.mode.Mode.TheVariants.{AfterMark}
 use Rattle.fj_parser.specs.Goals.{reader_for}
-use Rattle.fj_parser.specs.Machine.{State, with_method, after_expression, in_expression, run}
-use Rattle.fj_parser.specs.Readers.{Run, run_of}
-use Rattle.fj_parser.proofs.Complete.{with_roles, at_again, in_params, after_param_comma, after_param, after_params, with_a_param, in_methods, method_rest, roles_method_rest, behind_head, method_rest_run}
+use Rattle.fj_parser.specs.Machine.{State, with_method, after_expression, in_expression}
+use Rattle.fj_parser.specs.Readers.{run_of}
+use Rattle.fj_parser.proofs.Complete.{with_roles, at_again, in_params, after_param_comma, after_param, after_params, in_methods, method_rest, roles_method_rest, behind_head, method_rest_run}
 use Rattle.fj_parser.proofs.Expressions.{unread_none, some_same, end_of_run, in_body, expression_text}
 use Rattle.fj_parser.proofs.MethodsSound.{methods_text}
 use Rattle.fj_parser.proofs.Readers.{on_from}

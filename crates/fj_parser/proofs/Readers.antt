@@ -42,7 +42,7 @@ module _ (m : Reader) where
   on_from b (None, rs) = (None, rs)
   on_from b (Some s, rs) = with_roles rs (run_of m b s)
 
-  roles_on : (rs : List Role) (b : List Token) (p : Run m.State) → with_roles rs (on_from b p) ≡ on_from b (with_roles rs p)
+  pub roles_on : (rs : List Role) (b : List Token) (p : Run m.State) → with_roles rs (on_from b p) ≡ on_from b (with_roles rs p)
   roles_on rs b (None, qs) = refl
   roles_on rs b (Some s, qs) = ap (λ x. ((run_of m b s).0, x)) (sym (append_assoc rs qs (run_of m b s).1))
 

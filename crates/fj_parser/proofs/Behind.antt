@@ -1,5 +1,5 @@
 -- How the machine goes on by a token that waits, and what waits behind a token.
-use Rattle.std.proofs.Common.{◌≡◌, ℕ, suc, ◌+◌, Bool, true, false, List, [], ◌∷◌, ◌++◌, length, Option, Some, None, refl, sym, ap, subst, ◌∙◌, arith}
+use Rattle.std.proofs.Common.{◌≡◌, ℕ, suc, ◌+◌, true, false, List, [], ◌∷◌, ◌++◌, length, Option, Some, None, refl, sym, ap, ◌∙◌, arith}
 use Rattle.std.proofs.lemmas.Bool.{true≢false}
 use Rattle.std.proofs.lemmas.Option.{none-some, same_Some}
 use Rattle.std.specs.Prelude.{is_some}
@@ -8,8 +8,7 @@ use Rattle.cfj_model.specs.Tokens.{Token, Id, NewWord, ThisWord, OpenParen, Clos
 use Rattle.expression_reader.specs.declared.frame.Frame.{Frame}
 use Rattle.expression_reader.specs.declared.mode.Mode as reading
 use Rattle.expression_reader.specs.declared.mode.Mode.TheVariants as at
-use Rattle.expression_reader.specs.declared.roles.Settling.{Settling}
-use Rattle.expression_reader.specs.declared.roles.Settling.TheVariants.{Stays, Bracket, Cast}
+use Rattle.expression_reader.specs.declared.roles.Settling.TheVariants.{Cast}
 use Rattle.expression_reader.specs.Machine as expression
 use Rattle.expression_reader.proofs.Law.{waits_on}
 use Rattle.fj_parser.specs.Machine.{State, after_expression, emitted, in_expression, pending, pending_in, role, role_in, settles, settles_in, step, step_in, waits, waits_in}

@@ -1,9 +1,9 @@
 -- Roles that are counted one after another, as what waits is.
-use Rattle.std.proofs.Common.{◌≡◌, ℕ, zero, suc, List, [], ◌∷◌, ◌++◌, length, Option, Some, None, refl, sym, ap, subst, ◌∙◌, append_assoc}
+use Rattle.std.proofs.Common.{◌≡◌, ℕ, zero, suc, List, [], ◌∷◌, ◌++◌, Option, Some, None, refl, ap, subst, ◌∙◌, append_assoc}
 use Rattle.std.proofs.lemmas.Option.{none-some}
 use Rattle.std.specs.List.{slice_get}
 use Rattle.cfj_model.specs.declared.fault.FaultKind.{FaultKind}
-use Rattle.cfj_model.specs.Roles.{Role, opens, plain, var_name, Tally, counted, broken_by, AreWithin}
+use Rattle.cfj_model.specs.Roles.{Role, opens, plain, var_name, Tally, counted, broken_by}
 use Rattle.expression_reader.specs.declared.roles.Settling.{Settling}
 use Rattle.expression_reader.specs.declared.roles.Settling.TheVariants.{Stays, Bracket, Cast}
 use Rattle.expression_reader.specs.Machine as expression

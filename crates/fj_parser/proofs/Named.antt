@@ -1,5 +1,5 @@
 -- The names in the roles of tokens: they are identifiers, and short where the roles break nothing.
-use Rattle.std.proofs.Common.{◌≡◌, ℕ, ◌+◌, Bool, true, false, ◌&&◌, not, if◌then◌else◌, List, [], ◌∷◌, ◌++◌, Option, Some, None, refl, sym, ap, subst, ◌∙◌}
+use Rattle.std.proofs.Common.{◌≡◌, ℕ, Bool, true, false, not, if◌then◌else◌, List, [], ◌∷◌, ◌++◌, Option, Some, None, refl, sym, ap, subst, ◌∙◌}
 use Rattle.std.specs.Borrow.{Bor}
 use Rattle.std.proofs.lemmas.Bool.{true≢false, and_from}
 use Rattle.std.proofs.lemmas.Option.{none-some}
@@ -10,14 +10,14 @@ use Rattle.cfj_model.specs.Tokens.{Token, Id, NewWord, ThisWord, TrueWord, False
 use Rattle.expression_reader.specs.declared.mode.Mode as reading
 use Rattle.expression_reader.specs.declared.mode.Mode.TheVariants as at
 use Rattle.expression_reader.specs.Machine as expression
-use Rattle.expression_reader.specs.Views.{is_short, settles_short}
+use Rattle.expression_reader.specs.Views.{settles_short}
 use Rattle.expression_reader.proofs.Short.{is_name_of, own_short, roles_short}
 use Rattle.formula_reader.specs.Machine as formula
-use Rattle.fj_parser.specs.Machine.{State, emitted, name_role, pending, pending_in, role, role_in, settles, settles_in, token_role, waits, waits_in}
+use Rattle.fj_parser.specs.Machine.{State, name_role, pending_in, role, role_in, settles_in, token_role, waits, waits_in}
 use Rattle.fj_parser.specs.MachineViews.{names_fit_in}
 use Rattle.fj_parser.specs.Waiting.{WaitedWithin}
 use Rattle.fj_parser.specs.declared.mode.Mode.{Mode}
-use Rattle.fj_parser.specs.declared.mode.Mode.TheVariants.{InConstraint, AfterAt, AfterMark, AfterClass, AfterParamType, InExpression}
+use Rattle.fj_parser.specs.declared.mode.Mode.TheVariants.{InConstraint, AfterMark, AfterClass, AfterParamType, InExpression}
 use Rattle.fj_parser.specs.declared.mode.Node.TheVariants as node
 use Rattle.fj_parser.specs.declared.mode.Owner.TheVariants as owner
 use Rattle.fj_symbols.specs.Views.{is_identifier_role, is_name_token, is_read, symbol_seen}

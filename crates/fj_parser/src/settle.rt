@@ -58,7 +58,12 @@ fn count_bracket<'a>(
 ) -> Result<Option<Refusal>, AllocError>
     ensures { IfOk result (AreCounted (tally_seen tally.old) (settled_role settling (opens bracket.depth) ∷ []) (bracket.at ∷ []) (tally_seen tally.new)) }
 {
-    count(alloc, tally, bracket_role(settling, bracket.depth), bracket.at)
+    count(
+        alloc,
+        tally,
+        bracket_role(settling, bracket.depth),
+        bracket.at,
+    )
 }
 
 /// Counts the bracket and then the identifier in it.

@@ -1,4 +1,4 @@
-use Rattle.std.proofs.Common.{◌≡◌, Some, None, true, false, List, [], ◌∷◌, ◌++◌, ◌∙◌, ap, sym, subst}
+use Rattle.std.proofs.Common.{◌≡◌, Some, None, true, false, [], ◌∷◌, ◌++◌, ◌∙◌, ap, sym, subst}
 use Rattle.expression_reader.specs.Machine as expression
 use Rattle.fj_symbols.specs.Views.{is_identifier_role, role_seen, symbol_seen}
 use Rattle.fj_parser.specs.Machine.{pending, role, settles, waits}

@@ -1,4 +1,4 @@
-use Rattle.std.proofs.Common.{None, Some, subst}
+use Rattle.std.proofs.Common.{None, subst}
 use Rattle.fj_parser.specs.Accepting.{AreCounted, of_waiting}
 use Rattle.fj_parser.specs.Waiting.{waiting_places, waiting_roles}
 use Rattle.fj_tally.specs.Views.{tally_seen}

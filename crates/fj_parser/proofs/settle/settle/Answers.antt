@@ -1,14 +1,13 @@
 use denote.Enum.Bare.{sameb}
-use Rattle.std.proofs.Common.{◌≡◌, false, ◌∷◌, [], None, subst, sym}
+use Rattle.std.proofs.Common.{◌≡◌, false, subst, sym}
 use Rattle.std.proofs.lemmas.Bool.{true≢false}
 use Rattle.std.proofs.lemmas.Result.{IfOk-weaker}
-use Rattle.cfj_model.specs.Roles.{opens, var_name}
 use Rattle.expression_reader.specs.Machine.{settled}
 use Rattle.expression_reader.specs.contracts.roles.Settling.{the_type}
 use Rattle.expression_reader.specs.declared.roles.Settling.TheVariants.{Stays}
 use Rattle.fj_tally.specs.Views.{tally_seen}
 use Rattle.fj_parser.specs.Accepting.{AreCounted}
-use Rattle.fj_parser.specs.Waiting.{settled_role, waiting_places, waiting_roles}
+use Rattle.fj_parser.specs.Waiting.{waiting_places, waiting_roles}
 use Rattle.fj_parser.proofs.CountedRoles.{closed_settled}
 use Rattle.fj_parser.proofs.settle.settle.Goals as goal
 

@@ -10,28 +10,18 @@ use Rattle.cfj_model.specs.Tokens.{Token}
 use Rattle.expression_reader.specs.declared.roles.Settling.{Settling}
 use Rattle.expression_reader.specs.declared.roles.Settling.TheVariants.{Stays, Bracket, Cast}
 use Rattle.expression_reader.specs.Machine as expression
-<<<<<<< HEAD
 use Rattle.fj_parser.specs.Accepting.{BreaksAt, IsAccepted, IsRefused, settled, waiting, misplaced, IsBrokenAt, AreCounted, IsTaken, IsToldAt, OwnFault, broken, stuck, OwnTaken}
 use Rattle.fj_parser.specs.Machine.{State, emitted, pending, role, settles, waits}
 use Rattle.fj_parser.specs.GoalViews.{GoesFor, reader_of}
 use Rattle.fj_parser.specs.Goals.{step_for}
-=======
-use Rattle.fj_parser.specs.Accepting.{BreaksAt, IsRefused, settled, waiting, misplaced, IsBrokenAt, AreCounted, IsTaken, IsToldAt, OwnFault, broken, stuck, OwnTaken}
-use Rattle.fj_parser.specs.Machine.{State, emitted, pending, reader, role, settles, step, waits}
-use Rattle.fj_parser.specs.MachineViews.{Goes}
->>>>>>> 96b0627992366ab769a81649079878bd51695075
 use Rattle.fj_parser.specs.Readers.{misplaced_kind}
 use Rattle.fj_parser.specs.declared.part.Part.{Part}
 use Rattle.fj_parser.specs.Waiting.{waiting_left, waiting_places, waiting_roles, WaitedWithin}
 use Rattle.fj_parser.specs.declared.waiting.Refusal.{Refusal}
 use Rattle.fj_parser.specs.declared.waiting.Waiting.{Waiting}
 use Rattle.fj_parser.specs.declared.waiting.Waiting.TheVariants as waiting
-<<<<<<< HEAD
 use Rattle.fj_parser.proofs.Behind.{nothing_left, IsOnce}
 use Rattle.fj_parser.proofs.GoalBehind.{cast_goes_for, waits_behind_for}
-=======
-use Rattle.fj_parser.proofs.Behind.{cast_goes, nothing_left, waits_behind, IsOnce}
->>>>>>> 96b0627992366ab769a81649079878bd51695075
 use Rattle.fj_parser.proofs.CountedRoles.{breaks_more, get-append}
 use Rattle.fj_parser.proofs.Progress.{tallied_append, within_append}
 
@@ -188,13 +178,8 @@ waiting_taken p s n t u w x token at is own goes once h roles places =
     record {
       accepted = record { goes = goes; within = subst (AreWithin t) (sym all) h.within; counts = h.counts ∙ ap (tallied t) (sym all) };
       waits =
-<<<<<<< HEAD
         roles ∙ ap (λ rs. rs ++ role s token ∷ []) (left_roles c w ∙ ap (expression.left c) is)
         ∙ ap (λ b. expression.left c (pending s) ++ expression.where_so b (role s token)) (sym own) ∙ sym (waits_behind_for p.goal s n token goes once);
-=======
-          roles ∙ ap (λ rs. rs ++ role s token ∷ []) (left_roles c w ∙ ap (expression.left c) is)
-          ∙ ap (λ b. expression.left c (pending s) ++ expression.where_so b (role s token)) (sym own) ∙ sym (waits_behind s n token goes once);
->>>>>>> 96b0627992366ab769a81649079878bd51695075
       stand = places ∙ settled_behind c w at ∙ ap (λ rs. drop (length rs) (waiting_places w ++ at ∷ [])) (ap (expression.settled c) is ∙ sym all);
     }
 

@@ -37,6 +37,7 @@ pub mod NameLaw
 pub mod Named
 pub mod Naming
 pub mod PartFeatures
+pub mod PartTexts
 pub mod Parts
 pub mod Places
 pub mod Progress

@@ -1,5 +1,5 @@
 -- How the machine goes on for a goal.
-use Rattle.std.specs.Prelude.{◌≡◌, Bool, true, false, Some, None}
+use Rattle.std.specs.Prelude.{◌≡◌, ℕ, Bool, true, false, List, Some, None}
 use Rattle.cfj_model.specs.Tokens.{Token, Semicolon, End}
 use Rattle.cfj_model.specs.Roles.{Tally}
 use Rattle.fj_parser.specs.Goals.{step_for, with_single_field, reader_for}
@@ -35,3 +35,9 @@ reader_of p = reader_for p.goal p.features.now p.class.now
 
 abbrev pub met_of : Part → Tally
 met_of p = with_features p.features.now
+
+-- the part is read for this goal, with these features and for the class of this name
+pub record IsPart (p : Part) (g : Goal) (fs : List (List ℕ)) (c : List ℕ) : Type 0 where
+  pub goal : p.goal ≡ g
+  pub features : p.features.now ≡ fs
+  pub class : p.class.now ≡ c

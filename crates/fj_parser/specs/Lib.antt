@@ -11,3 +11,4 @@ pub mod MachineViews
 pub mod Readers
 pub mod Reading
 pub mod Waiting
+pub mod Wanted

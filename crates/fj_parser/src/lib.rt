@@ -8,6 +8,7 @@
 mod accept;
 mod assigns;
 mod ctors;
+mod entries;
 mod goal;
 mod heads;
 mod machine;
@@ -22,5 +23,6 @@ mod reading;
 mod role;
 mod settle;
 mod waiting;
+mod want;
 
 pub use parser::parse_project;

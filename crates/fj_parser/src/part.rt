@@ -33,16 +33,15 @@ fn features_of<'a>(alloc: Global, names: &'a [Name]) -> Result<Features<'a>, All
 }
 
 impl<'a> Part<'a> {
-    ghost use Rattle.fj_parser.specs.GoalViews.{met_of};
+    ghost use Rattle.fj_parser.specs.GoalViews.{met_of, IsPart};
     ghost use Rattle.fj_parser.specs.Goals.{start_for};
-    ghost use Rattle.fj_parser.specs.Machine.{behind};
+    ghost use Rattle.fj_parser.specs.Machine.{behind, unnamed};
     ghost use Rattle.fj_parser.specs.MachineViews.{machine_seen};
     ghost use Rattle.fj_tally.specs.Views.{tally_seen};
 
     /// What stands without a feature model.
     pub fn alone(goal: Goal) -> Part<'a>
-        ensures goal { result.goal ≡ goal }
-        ensures features { result.features.now ≡ [] }
+        ensures { IsPart result goal [] unnamed }
     {
         Part {
             goal,
@@ -55,8 +54,7 @@ impl<'a> Part<'a> {
     pub fn under(goal: Goal, model: &'a FeatureModel) -> Part<'a>
         requires few { nat_le (length model.now.features) most_features ≡ true }
         requires distinct { are_distinct model.now.features ≡ true }
-        ensures goal { result.goal ≡ goal }
-        ensures features { result.features.now ≡ model.now.features }
+        ensures { IsPart result goal model.now.features unnamed }
     {
         Part {
             goal,
@@ -69,9 +67,7 @@ impl<'a> Part<'a> {
     pub fn constructor(model: &'a FeatureModel, class: &'a Name) -> Part<'a>
         requires few { nat_le (length model.now.features) most_features ≡ true }
         requires distinct { are_distinct model.now.features ≡ true }
-        ensures goal { result.goal ≡ Goal.Constructor }
-        ensures features { result.features.now ≡ model.now.features }
-        ensures class { result.class.now ≡ class.now }
+        ensures { IsPart result Goal.Constructor model.now.features class.now }
     {
         Part {
             goal: Goal::Constructor,

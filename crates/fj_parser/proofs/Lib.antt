@@ -36,6 +36,7 @@ pub mod ModelLaw
 pub mod NameLaw
 pub mod Named
 pub mod Naming
+pub mod PartEnds
 pub mod PartFeatures
 pub mod PartTexts
 pub mod Parts
@@ -47,6 +48,7 @@ pub mod SingleParts
 pub mod Sound
 pub mod Spelled
 pub mod Standing
+pub mod StandingFor
 pub mod Texts
 pub mod TextsKept
 pub mod TokenReads

@@ -7,14 +7,19 @@
 
 mod accept;
 mod assigns;
+mod class_text;
+mod constructor_text;
 mod ctors;
-mod entries;
+mod expr_text;
 mod goal;
 mod heads;
 mod machine;
 mod members;
 mod methods;
 mod mode;
+mod model_text;
+mod name_text;
+mod only;
 mod params;
 mod parser;
 mod part;

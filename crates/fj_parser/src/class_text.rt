@@ -1,32 +1,15 @@
-ghost use Rattle.std.specs.Prelude.{◌≡◌, ℕ, true, nat_le, length, [], ◌∷◌, IfOk, Err};
+ghost use Rattle.std.specs.Prelude.{◌≡◌, ℕ, true, nat_le, length, IfOk, Err};
 ghost use Rattle.cfj_model.specs.declared.class.Class.{Class};
-ghost use Rattle.cfj_model.specs.declared.class.Constructor.{Constructor};
-ghost use Rattle.cfj_model.specs.declared.expr.Expr.{Expr};
-ghost use Rattle.cfj_model.specs.declared.feature_model.FeatureModel.{FeatureModel};
 ghost use Rattle.cfj_model.specs.Faults.{single_classes, IsFirstFault, IsTextOf};
-ghost use Rattle.cfj_model.specs.Names.{is_identifier};
 ghost use Rattle.cfj_model.specs.ProductLines.{are_distinct, most_features};
 ghost use Rattle.fj_parser.specs.Answers.{IsReadAs, IsRefusedAs};
-ghost use Rattle.fj_parser.specs.Languages.{constructors, expressions, models, names};
 
 use crate::goal::Goal;
+use crate::only::only;
 use crate::part::Part;
 use crate::reading::read_text;
-use cfj_model::{Class, Constructor, Expr, FaultKind, FeatureModel, Name, ParseFault};
-use fj_symbols::name_of;
+use cfj_model::{Class, FaultKind, FeatureModel, ParseFault};
 use std::alloc::Global;
-
-/// The one item of a list.
-pub(crate) fn only<T: Drop>(list: Vec<T>) -> T
-    requires { length list.items ≡ 1 }
-    ensures { list.entry.items ≡ result ∷ [] }
-{
-    let mut list = list;
-    match list.pop() {
-        Some(item) => item,
-        None => unreachable!(),
-    }
-}
 
 fn read_class<'a>(
     alloc: Global,
@@ -42,7 +25,7 @@ fn read_class<'a>(
     Ok(only(machine.classes))
 }
 
-/// The class that a text stands for, or the text's first fault; its marks may name the features of the model.
+/// The class that a text stands for, or the text's first fault; marks name features of the model.
 pub fn parse_class(
     alloc: Global,
     text: &str,

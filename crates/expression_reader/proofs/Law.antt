@@ -1,9 +1,7 @@
 -- The laws of the machine: what it has read begins a text, in the one way in which it can; and where it is stuck, no text goes on.
 use Rattle.std.proofs.Common.{◌≡◌, ℕ, ◌+◌, Bool, true, false, List, [], ◌∷◌, ◌++◌, length, map, Option, Some, None, refl, sym, ◌∙◌, ap, subst, arith, append_assoc, length-append, ◌⊎◌, inl, inr}
-use Rattle.std.specs.Prelude.{bit_or}
 use Rattle.cfj_model.specs.declared.expr.Expr.{Expr}
 use Rattle.cfj_model.specs.declared.expr.Expr.TheVariants as e
-use Rattle.cfj_model.specs.Marks.{color_of}
 use Rattle.cfj_model.specs.Tokens.{Token, Id, NewWord, ThisWord, OpenParen, CloseParen, Comma, Dot, At, Semicolon}
 use Rattle.cfj_model.specs.Roles.{Role, plain, opens, var_name, used_name, is_settled, are_settled}
 use Rattle.cfj_model.specs.ExpressionGrammar.{roles_expr, value_expr}
@@ -15,9 +13,10 @@ use Rattle.expression_reader.specs.declared.roles.Settling.{Settling}
 use Rattle.expression_reader.specs.declared.roles.Settling.TheVariants.{Stays, Bracket, Cast}
 use Rattle.std.proofs.lemmas.List.{length-map}
 use Rattle.std.proofs.lemmas.Bool.{and_parts}
-use Rattle.expression_reader.specs.Machine.{State, at, start, done, applied, colored_arg, step, step_in, open_frames, emitted, pending, as_cast, Run, with_roles, then_run, run, is_read_whole, is_done, is_done_mode, takes_name, takes_name_in, close_in, comma_in, finish_in, uncast, after, settled, settles, unless, waits, role, waiting, left, where_so}
+use Rattle.expression_reader.specs.Machine.{State, at, start, done, step, step_in, open_frames, emitted, pending, as_cast, Run, with_roles, then_run, run, is_read_whole, is_done, is_done_mode, takes_name, takes_name_in, close_in, comma_in, finish_in, uncast, after, settled, settles, unless, waits, role, waiting, left, where_so}
 use Rattle.expression_reader.specs.Reading.{Begins, CanGoOn}
-use Rattle.expression_reader.proofs.Complete.{Ends, at_close, at_comma, at_semicolon, cast_ends, member_ends, closed_ends, bracketed, cast_to, text_runs}
+use Rattle.expression_reader.proofs.Complete.{at_close, at_comma, at_semicolon, closed_ends, bracketed, cast_to, text_runs}
+use Rattle.expression_reader.proofs.Completing.{are_unmarked, completes}
 use Rattle.expression_reader.proofs.Sound.{Accepts, never, text_of}
 
 -- ---- a run in two parts
@@ -163,71 +162,16 @@ read_long fs front s rs h =
     let l : length (run fs front start).1 ≡ length rs = ap (λ (p : Run). length p.1) h in
     omega arith
 
--- ---- every state can be completed
-
--- the shortest end of a text behind an expression in these frames
-closing : List Frame → List Token
-closing [] = Semicolon ∷ []
-closing (InBracket ∷ frames) = CloseParen ∷ closing frames
-closing (InCast s c ∷ frames) = closing frames
-closing (InArgs h before colors ∷ frames) = CloseParen ∷ closing frames
-
-ends_closing : (frames : List Frame) → Ends (closing frames)
-unfolding closing
-ends_closing [] = at_semicolon _
-ends_closing (InBracket ∷ frames) = at_close _
-ends_closing (InCast s c ∷ frames) = ends_closing frames
-ends_closing (InArgs h before colors ∷ frames) = at_close _
-
-after_completes : (fs : List (List ℕ)) (frames : List Frame) (x : Expr) (n : ℕ) → Accepts fs (closing frames) (at frames (After x) n)
-unfolding closing run
-after_completes fs [] x n = refl
-after_completes fs (InBracket ∷ frames) x n = after_completes fs frames x n
-after_completes fs (InCast s c ∷ frames) x n = ap (λ (p : Run). is_read_whole p.0) (cast_ends fs (closing frames) (ends_closing frames) s c frames x n) ∙ after_completes fs frames (e.Cast s c x) n
-after_completes fs (InArgs h before colors ∷ frames) x n = after_completes fs frames (applied h (before ++ colored_arg colors x ∷ [])) n
-
--- tokens with which a text can end from a state, where what waits is a bracket's
-record Completes (fs : List (List ℕ)) (s : State) : Type 0 where
-  more : List Token
-  others : List Role
-  goes : Accepts fs more s
-  in_roles : (run fs more s).1 ≡ pending s ++ others
-
--- a name in a bracket
-closed_completes : (fs : List (List ℕ)) (w : List ℕ) (frames : List Frame) (n : ℕ) → Accepts fs (closing frames) (at frames (ParenClosed w) n)
-closed_completes fs w frames n = ap (λ (p : Run). is_read_whole p.0) (closed_ends fs (closing frames) (ends_closing frames) w frames n) ∙ after_completes fs frames (e.Var n w) (n + 1)
-
-closed_roles : (fs : List (List ℕ)) (w : List ℕ) (frames : List Frame) (n : ℕ) → (run fs (closing frames) (at frames (ParenClosed w) n)).1 ≡ bracketed (open_frames frames) w ++ (run fs (closing frames) (at frames (After (e.Var n w)) (n + 1))).1
-closed_roles fs w frames n = ap (λ (p : Run). p.1) (closed_ends fs (closing frames) (ends_closing frames) w frames n)
-
--- a member that isn't called
-member_completes : (fs : List (List ℕ)) (w : List ℕ) (frames : List Frame) (x : Expr) (n : ℕ) → Accepts fs (closing frames) (at frames (AfterMember x w) n)
-member_completes fs w frames x n = ap (λ (p : Run). is_read_whole p.0) (member_ends fs (closing frames) (ends_closing frames) w frames x n) ∙ after_completes fs frames (e.Get n x w) (n + 1)
-
-completes : (fs : List (List ℕ)) (m : Mode) (frames : List Frame) (n : ℕ) → Completes fs (at frames m n)
-unfolding run
-completes fs Begin frames n = record { more = Id [] ∷ closing frames; others = _; goes = after_completes fs frames (e.Var n []) (n + 1); in_roles = refl }
-completes fs (FirstArg h) frames n = record { more = CloseParen ∷ closing frames; others = _; goes = after_completes fs frames (applied h []) n; in_roles = refl }
-completes fs (InMarks h before colors) frames n = record { more = Id [] ∷ (CloseParen ∷ closing frames); others = _; goes = after_completes fs frames (applied h (before ++ colored_arg colors (e.Var n []) ∷ [])) (n + 1); in_roles = refl }
-completes fs (AfterAt h before colors) frames n = record { more = Id [] ∷ (Id [] ∷ (CloseParen ∷ closing frames)); others = _; goes = after_completes fs frames (applied h (before ++ colored_arg (bit_or colors (color_of fs [])) (e.Var n []) ∷ [])) (n + 1); in_roles = refl }
-completes fs Paren frames n = record { more = Id [] ∷ (CloseParen ∷ closing frames); others = _; goes = closed_completes fs [] frames n; in_roles = closed_roles fs [] frames n }
-completes fs (ParenName w) frames n = record { more = CloseParen ∷ closing frames; others = _; goes = closed_completes fs w frames n; in_roles = closed_roles fs w frames n }
-completes fs (ParenClosed w) frames n = record { more = closing frames; others = _; goes = closed_completes fs w frames n; in_roles = closed_roles fs w frames n }
-completes fs (After x) frames n = record { more = closing frames; others = _; goes = after_completes fs frames x n; in_roles = refl }
-completes fs (AfterDot x) frames n = record { more = Id [] ∷ closing frames; others = _; goes = member_completes fs [] frames x n; in_roles = refl }
-completes fs (AfterMember x w) frames n = record { more = closing frames; others = _; goes = member_completes fs w frames x n; in_roles = refl }
-completes fs AfterNew frames n = record { more = Id [] ∷ (OpenParen ∷ (CloseParen ∷ closing frames)); others = _; goes = after_completes fs frames (e.New n [] []) (n + 1); in_roles = refl }
-completes fs (AfterClass c) frames n = record { more = OpenParen ∷ (CloseParen ∷ closing frames); others = _; goes = after_completes fs frames (e.New n c []) (n + 1); in_roles = refl }
-completes fs (Done x) frames n = record { more = []; others = []; goes = refl; in_roles = refl }
-
 -- ---- what is read begins a text
 
--- what the machine has read begins a text, in the roles that it gave, and those of the tokens that wait
-pub reads_begin : (fs : List (List ℕ)) (front : List Token) (s : State) (rs : List Role) → run fs front start ≡ (Some s, rs) → Begins front (rs ++ pending s)
-reads_begin fs front s rs h =
+-- What the machine has read begins a text, in the roles that it gave, and those of the tokens that wait; and no more marks need
+-- to follow.
+pub reads_unmarked : (fs : List (List ℕ)) (front : List Token) (s : State) (rs : List Role) → run fs front start ≡ (Some s, rs) → (b : Begins front (rs ++ pending s)) × (are_unmarked b.more ≡ true)
+reads_unmarked fs front s rs h =
     let c = completes fs s.mode s.frames s.slot in
     let all : run fs (front ++ c.more) start ≡ with_roles rs (run fs c.more s) = run_append fs front c.more start ∙ ap (on_from fs c.more) h in
     let t = text_of fs (front ++ c.more) (ap (λ (p : Run). is_read_whole p.0) all ∙ c.goes) in
+    let b : Begins front (rs ++ pending s) =
     record {
       tree = t.0;
       more = c.more;
@@ -235,7 +179,11 @@ reads_begin fs front s rs h =
       text = sym t.1;
       in_roles = ap (λ (p : Run). p.1) (sym (text_runs fs t.0) ∙ ap (λ w. run fs w start) (sym t.1) ∙ all) ∙ ap (λ (q : List Role). rs ++ q) c.in_roles ∙ sym (append_assoc rs (pending s) c.others);
       each = length-append rs (pending s) ∙ read_long fs front s rs h;
-    }
+    } in
+    (b, c.unmarked)
+
+pub reads_begin : (fs : List (List ℕ)) (front : List Token) (s : State) (rs : List Role) → run fs front start ≡ (Some s, rs) → Begins front (rs ++ pending s)
+reads_begin fs front s rs h = (reads_unmarked fs front s rs h).0
 
 -- ---- where the machine is stuck, no text goes on
 

@@ -111,20 +111,15 @@ expression_waits s m frames n is = ap (λ k. pending_in k (record s { expression
 abbrev pub IsOnce : State → State → Token → Type 0
 IsOnce s n token = length (emitted s token) + length (pending n) ≡ suc (length (pending s))
 
-abbrev OnceIn : Mode → State → State → Token → Type 0
+abbrev pub OnceIn : Mode → State → State → Token → Type 0
 OnceIn m s n token = length (expression.settled (settles_in m s token) (pending_in m s) ++ expression.unless (waits_in m s token) (role_in m s token)) + length (pending n) ≡ suc (length (pending_in m s))
 
-one_settled : (k : ℕ) (rs : List Role) → 1 + length rs ≡ suc 0 → rs ≡ []
+pub one_settled : (k : ℕ) (rs : List Role) → 1 + length rs ≡ suc 0 → rs ≡ []
 one_settled k rs e = no_more rs (omega arith)
 
-behind_in : (m : Mode) (s n : State) (token : Token) → s.mode ≡ m → step_in m s token ≡ Some n → OnceIn m s n token → pending n ≡ expression.left (settles_in m s token) (pending_in m s) ++ expression.where_so (waits_in m s token) (role_in m s token)
-behind_in InExpression s n token is goes once = go (expression.step s.features s.expression token) refl goes
+pub behind_expression : (s n : State) (token : Token) → s.mode ≡ InExpression → step_in InExpression s token ≡ Some n → pending n ≡ expression.waiting s.expression token
+behind_expression s n token is goes = go (expression.step s.features s.expression token) refl goes
   where
     go : (o : Option expression.State) → expression.step s.features s.expression token ≡ o → in_expression s o ≡ Some n → pending n ≡ expression.waiting s.expression token
     go None e f = absurd (none-some n f)
     go (Some x) e f = ap pending (sym (same_Some _ n f)) ∙ expression_waits s x.mode x.frames x.slot is ∙ waits_on s.features s.expression x token e
-behind_in _ s n token is goes once = one_settled 0 (pending n) once
-
--- Behind a token those wait that waited and aren't settled, and the token itself where it waits.
-pub waits_behind : (s n : State) (token : Token) → step s token ≡ Some n → IsOnce s n token → pending n ≡ expression.left (settles s token) (pending s) ++ expression.where_so (waits s token) (role s token)
-waits_behind s n token goes once = behind_in s.mode s n token refl goes once

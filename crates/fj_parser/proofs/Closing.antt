@@ -30,42 +30,42 @@ Reaches m None = ⊥
 Reaches m (Some n) = n.mode ≡ m
 
 -- a test that holds lets the run go on
-let_through : (b : Bool) (f : State → Run State) (rs : List Role) (n : State) → b ≡ true → Reaches AtEnd (f n).0 → Reaches AtEnd (then_run f rs (if b then Some n else None)).0
+pub let_through : (b : Bool) (f : State → Run State) (rs : List Role) (n : State) → b ≡ true → Reaches AtEnd (f n).0 → Reaches AtEnd (then_run f rs (if b then Some n else None)).0
 let_through true f rs n e h = h
 let_through false f rs n e h = never e
 
 -- The shortest ends of a text: from the methods, from the assignments, from the second name of one, from the sent names, from a
 -- body, from the parameters before it, from a class's constructor, and from the name of its superclass.
-methods_end : List Token
+unfoldable pub methods_end : List Token
 methods_end = CloseBrace ∷ (End ∷ [])
 
-assigns_end : List Token
+unfoldable pub assigns_end : List Token
 assigns_end = CloseBrace ∷ methods_end
 
-second_end : List ℕ → List Token
+unfoldable pub second_end : List ℕ → List Token
 second_end w = Id w ∷ (Semicolon ∷ assigns_end)
 
-sends_end : List Token
+unfoldable pub sends_end : List Token
 sends_end = CloseParen ∷ (Semicolon ∷ assigns_end)
 
-method_end : List Token
+unfoldable pub method_end : List Token
 method_end = ReturnWord ∷ (Id [] ∷ (Semicolon ∷ assigns_end))
 
-body_end : Owner → List Token
+unfoldable pub body_end : Owner → List Token
 body_end owner.Constructor = OpenBrace ∷ (SuperWord ∷ (OpenParen ∷ sends_end))
 body_end owner.Method = OpenBrace ∷ method_end
 
-params_end : Owner → List Token
+unfoldable pub params_end : Owner → List Token
 params_end o = CloseParen ∷ body_end o
 
-ctor_end : List ℕ → List Token
+unfoldable pub ctor_end : List ℕ → List Token
 ctor_end w = Id w ∷ (OpenParen ∷ params_end owner.Constructor)
 
-parent_end : List ℕ → List Token
+unfoldable pub parent_end : List ℕ → List Token
 parent_end w = Id [] ∷ (OpenBrace ∷ ctor_end w)
 
 -- behind the marks of a node, in a class of this name
-marked_end : Node → List ℕ → List Token
+unfoldable pub marked_end : Node → List ℕ → List Token
 marked_end node.Class w = ClassWord ∷ (Id [] ∷ (ExtendsWord ∷ parent_end []))
 marked_end node.Member w = Id [] ∷ (Id [] ∷ (Semicolon ∷ ctor_end w))
 marked_end node.Method w = Id [] ∷ (Id [] ∷ (OpenParen ∷ params_end owner.Method))
@@ -74,7 +74,7 @@ marked_end node.Send w = Id [] ∷ sends_end
 marked_end node.Assign w = ThisWord ∷ (Dot ∷ (Id [] ∷ (Equals ∷ second_end [])))
 
 -- tokens with which a text can end from a state
-closing : Mode → State → List Token
+unfoldable pub closing : Mode → State → List Token
 closing Begin s = End ∷ []
 closing AfterFeatures s = Id [] ∷ (Semicolon ∷ (End ∷ []))
 closing AfterFeature s = Semicolon ∷ (End ∷ [])
@@ -118,7 +118,7 @@ closing AfterBody s = assigns_end
 closing AtEnd s = []
 
 -- a class with no constructor yet is completed by one of its name
-ctor_closes : (s : State) → Reaches AtEnd (run (ctor_end s.name) (record s { mode = InMembers })).0
+pub ctor_closes : (s : State) → Reaches AtEnd (run (ctor_end s.name) (record s { mode = InMembers })).0
 unfolding run_of ctor_end params_end body_end sends_end assigns_end methods_end
 ctor_closes s = let_through (bytes_eq s.name s.name) (run (params_end owner.Constructor)) (plain ∷ []) (record s { mode = InParams owner.Constructor; of = unnamed }) (same_name s.name) refl
 
@@ -196,7 +196,7 @@ formula_closes s undone =
     ending_of (record s { mode = InConstraint }) (c.more ++ End ∷ []) refl (subst (λ (p : Run State). Reaches AtEnd p.0) (sym (formula_runs s c.more s.formula c.others c.value l (End ∷ []))) refl)
 
 -- lists that begin alike and are the same go on alike
-same_rest : (a b c : List Role) → a ++ b ≡ a ++ c → b ≡ c
+pub same_rest : (a b c : List Role) → a ++ b ≡ a ++ c → b ≡ c
 same_rest [] b c e = e
 same_rest (r ∷ a) b c e = let rest : a ++ b ≡ a ++ c = cc e in same_rest a b c rest
 

@@ -47,7 +47,7 @@ numbered_on f before x xs =
 -- ---- marks
 
 -- behind the marks of any node another may follow
-at_again : (n : Node) (s : State) → step_in (AfterMark n) s At ≡ to (AfterAt n) s
+pub at_again : (n : Node) (s : State) → step_in (AfterMark n) s At ≡ to (AfterAt n) s
 at_again node.Class s = refl
 at_again node.Member s = refl
 at_again node.Method s = refl
@@ -71,7 +71,7 @@ first_mark_run n m ms ts s = ap (with_role (mark_name m)) (marks_run n ms ts (re
 -- ---- a class's parts
 
 -- the states between the items of each list
-abbrev in_members : State → State
+abbrev pub in_members : State → State
 in_members s = record s { mode = InMembers; colors = 0; of = unnamed; last = unnamed }
 
 abbrev pub in_params : Owner → State → State
@@ -115,7 +115,7 @@ abbrev pub with_an_assign : State → Named → State
 with_an_assign s d = record s { assigns = s.assigns ++ value_sent s.features (length s.assigns) d ∷ [] }
 
 -- a field with these marks
-field_run : (ms : List (List ℕ)) (of name : List ℕ) (ts : List Token) (s : State) → run (spell_field (record { marks = ms; of = of; name = name }) ts) (in_members s) ≡ with_roles (roles_field (record { marks = ms; of = of; name = name })) (run ts (in_members (with_a_field s (record { marks = ms; of = of; name = name }))))
+pub field_run : (ms : List (List ℕ)) (of name : List ℕ) (ts : List Token) (s : State) → run (spell_field (record { marks = ms; of = of; name = name }) ts) (in_members s) ≡ with_roles (roles_field (record { marks = ms; of = of; name = name })) (run ts (in_members (with_a_field s (record { marks = ms; of = of; name = name }))))
 unfolding run_of
 field_run [] of name ts s = refl
 field_run (m ∷ ms) of name ts s = ap (with_role plain) (first_mark_run node.Member m ms (Id of ∷ (Id name ∷ (Semicolon ∷ ts))) (in_members s))
@@ -157,7 +157,7 @@ more_params_run o (d ∷ ds) ts s =
     ∙ ap (λ ps. with_roles (λ rs. each_behind plain (roles_param_of o) (d ∷ ds) (plain ∷ rs)) (run ts (after_params o (record s { params = ps })))) (numbered_on (value_param s.features) s.params d ds)
 
 -- list(param), and the bracket
-params_run : (o : Owner) (ds : List Declared) (ts : List Token) (s : State) → run (separated Comma spell_param ds (CloseParen ∷ ts)) (in_params o s) ≡ with_roles (λ rs. separated plain (roles_param_of o) ds (plain ∷ rs)) (run ts (after_params o (record s { params = numbered (value_param s.features) 0 ds })))
+pub params_run : (o : Owner) (ds : List Declared) (ts : List Token) (s : State) → run (separated Comma spell_param ds (CloseParen ∷ ts)) (in_params o s) ≡ with_roles (λ rs. separated plain (roles_param_of o) ds (plain ∷ rs)) (run ts (after_params o (record s { params = numbered (value_param s.features) 0 ds })))
 unfolding run_of
 params_run o [] ts s = refl
 params_run o (d ∷ ds) ts s =
@@ -219,14 +219,14 @@ assigns_run (d ∷ ds) ts s =
     ∙ ap (λ ps. with_roles (in_order roles_assign (d ∷ ds)) (run ts (in_assigns (record s { assigns = ps })))) (numbered_on (value_sent s.features) s.assigns d ds)
 
 -- the states of a constructor: before its body, and behind it
-abbrev before_body : ClassTree → State → State
+abbrev pub before_body : ClassTree → State → State
 before_body k s = record s { mode = AfterParams owner.Constructor; params = numbered (value_param s.features) 0 k.params; sends = []; assigns = []; colors = 0; of = unnamed; last = unnamed }
 
 abbrev pub behind_ctor : ClassTree → State → State
 behind_ctor k s = record s { mode = InMethods; params = []; sends = []; assigns = []; ctor = value_ctor s.features k; colors = 0; of = unnamed; last = unnamed }
 
 -- the constructor from its body on
-body_run : (k : ClassTree) (ts : List Token) (s : State) → run (OpenBrace ∷ (SuperWord ∷ (OpenParen ∷ separated Comma spell_sent k.sends (CloseParen ∷ (Semicolon ∷ in_order spell_assign k.assigns (CloseBrace ∷ ts)))))) (before_body k s) ≡ with_roles (λ rs. plain ∷ (plain ∷ (plain ∷ separated plain roles_sent k.sends (plain ∷ (plain ∷ in_order roles_assign k.assigns (plain ∷ rs)))))) (run ts (behind_ctor k s))
+pub body_run : (k : ClassTree) (ts : List Token) (s : State) → run (OpenBrace ∷ (SuperWord ∷ (OpenParen ∷ separated Comma spell_sent k.sends (CloseParen ∷ (Semicolon ∷ in_order spell_assign k.assigns (CloseBrace ∷ ts)))))) (before_body k s) ≡ with_roles (λ rs. plain ∷ (plain ∷ (plain ∷ separated plain roles_sent k.sends (plain ∷ (plain ∷ in_order roles_assign k.assigns (plain ∷ rs)))))) (run ts (behind_ctor k s))
 unfolding run_of
 body_run k ts s =
     ap (with_roles (λ rs. plain ∷ (plain ∷ (plain ∷ rs)))) (sends_run k.sends (Semicolon ∷ in_order spell_assign k.assigns (CloseBrace ∷ ts)) (before_body k s))
@@ -269,14 +269,21 @@ method_rest m ts = separated Comma spell_param m.params (CloseParen ∷ (OpenBra
 abbrev pub roles_method_rest : MethodTree → List Role → List Role
 roles_method_rest m rs = separated plain roles_method_param m.params (plain ∷ (plain ∷ (plain ∷ roles_expr 0 m.body (plain ∷ (plain ∷ rs)))))
 
+-- a method behind its head, with its colours in hand
+abbrev pub behind_head : State → ℕ → List ℕ → List ℕ → State
+behind_head s colors result name = in_params owner.Method (record (in_methods s) { method_colors = colors; result_type = result; method = name })
+
+pub method_rest_run : (m : MethodTree) (colors : ℕ) (ts : List Token) (s : State) → run (method_rest m ts) (behind_head s colors m.result m.name) ≡ with_roles (roles_method_rest m) (run ts (in_methods (record s { methods = s.methods ++ record (value_method s.features m) { colors = colors } ∷ [] })))
+unfolding run_of
+method_rest_run m colors ts s =
+    let n : State = record (in_methods s) { method_colors = colors; result_type = m.result; method = m.name } in
+    params_run owner.Method m.params (OpenBrace ∷ (ReturnWord ∷ spell_expr m.body (Semicolon ∷ (CloseBrace ∷ ts)))) n
+    ∙ ap (with_roles (λ rs. separated plain roles_method_param m.params (plain ∷ (plain ∷ (plain ∷ rs))))) (expression_tree_runs m.body (CloseBrace ∷ ts) (record n { params = numbered (value_param s.features) 0 m.params }))
+
 -- a method's words behind the first, with its colours in hand
 method_words_run : (m : MethodTree) (colors : ℕ) (ts : List Token) (s : State) → run (Id m.name ∷ (OpenParen ∷ method_rest m ts)) (record (in_methods s) { mode = AfterResult; colors = colors; of = m.result }) ≡ with_roles (λ rs. method_name m.name ∷ (plain ∷ roles_method_rest m rs)) (run ts (in_methods (record s { methods = s.methods ++ record (value_method s.features m) { colors = colors } ∷ [] })))
 unfolding run_of
-method_words_run m colors ts s =
-    let n : State = record (in_methods s) { method_colors = colors; result_type = m.result; method = m.name } in
-    ap (with_roles (λ rs. method_name m.name ∷ (plain ∷ rs)))
-    (params_run owner.Method m.params (OpenBrace ∷ (ReturnWord ∷ spell_expr m.body (Semicolon ∷ (CloseBrace ∷ ts)))) n
-    ∙ ap (with_roles (λ rs. separated plain roles_method_param m.params (plain ∷ (plain ∷ (plain ∷ rs))))) (expression_tree_runs m.body (CloseBrace ∷ ts) (record n { params = numbered (value_param s.features) 0 m.params })))
+method_words_run m colors ts s = ap (with_roles (λ rs. method_name m.name ∷ (plain ∷ rs))) (method_rest_run m colors ts s)
 
 -- a method's marks and its first word
 method_marks_run : (ms : List (List ℕ)) (w : List ℕ) (ts : List Token) (s : State) → run (spell_marks ms (Id w ∷ ts)) (in_methods s) ≡ with_roles (λ rs. roles_marks ms (used_name w ∷ rs)) (run ts (record (in_methods s) { mode = AfterResult; colors = colors_of s.features ms; of = w }))
@@ -320,7 +327,7 @@ abbrev class_text : ClassTree → List Token → List Token
 class_text k ts = Id k.name ∷ (ExtendsWord ∷ (Id k.parent ∷ (OpenBrace ∷ in_order spell_field k.fields (spell_ctor k (in_order spell_method k.methods (CloseBrace ∷ ts))))))
 
 -- class
-class_run : (k : ClassTree) (ts : List Token) (fs : List (List ℕ)) (gs : List Formula) (cs : List Class) → run (spell_class k ts) (behind fs gs cs) ≡ with_roles (roles_class k) (run ts (behind fs gs (cs ++ value_class fs k ∷ [])))
+pub class_run : (k : ClassTree) (ts : List Token) (fs : List (List ℕ)) (gs : List Formula) (cs : List Class) → run (spell_class k ts) (behind fs gs cs) ≡ with_roles (roles_class k) (run ts (behind fs gs (cs ++ value_class fs k ∷ [])))
 class_run k ts fs gs cs =
     class_marks_run k.marks (class_text k ts) fs gs cs
     ∙ ap (with_roles (λ rs. roles_marks k.marks (plain ∷ rs))) (class_words_run k (colors_of fs k.marks) ts fs gs cs)

@@ -69,9 +69,9 @@ class_named n t w h =
     record { empty = h.empty.3; features = h.features; params = omega (arith, h.empty.0); sends = omega (arith, h.empty.1); assigns = omega (arith, h.empty.2); slots = omega (arith, h.empty.3); few_features = h.few_features; few_params = omega arith; few_sends = omega arith; few_assigns = omega arith; few_nodes = omega arith }
 
 -- a method's name
-method_named : (n : InHand) (t : Tally) (w : List ℕ) → IsCounted before_method n t → IsCounted before_body n (counted t (method_name w))
+method_named : (n : InHand) (t : Tally) (w : List ℕ) → IsCounted before_method n t → IsCounted before_method n (counted t (method_name w))
 method_named n t w h =
-    record { empty = h.empty.1; features = h.features; params = omega (arith, h.empty.0); sends = h.sends; assigns = h.assigns; slots = omega (arith, h.empty.1); few_features = h.few_features; few_params = omega arith; few_sends = h.few_sends; few_assigns = h.few_assigns; few_nodes = omega arith }
+    record { empty = h.empty; features = h.features; params = omega (arith, h.empty.0); sends = h.sends; assigns = h.assigns; slots = omega (arith, h.empty.1); few_features = h.few_features; few_params = omega arith; few_sends = h.few_sends; few_assigns = h.few_assigns; few_nodes = omega arith }
 
 -- a field's name
 with_field : {n : InHand} {t : Tally} (w : List ℕ) → IsCounted before_body n t → IsCounted before_body n (counted t (field_name w))
@@ -152,8 +152,12 @@ body_ended n t h = record { empty = (refl, refl); features = h.features; params 
 class_ended : (n : InHand) (t : Tally) → IsCounted before_method n t → IsCounted before_class (record n { params = 0; sends = 0; assigns = 0 }) t
 class_ended n t h = record { empty = (refl, refl, refl, h.empty.1); features = h.features; params = omega arith; sends = omega arith; assigns = omega arith; slots = h.slots; few_features = h.few_features; few_params = h.few_params; few_sends = h.few_sends; few_assigns = h.few_assigns; few_nodes = h.few_nodes }
 
--- a body begins
-body_begun : {n : InHand} {t : Tally} → IsCounted before_body n t → IsCounted in_body n t
+-- the parameters of a method begin
+params_begun : {n : InHand} {t : Tally} → IsCounted before_method n t → IsCounted before_body n t
+params_begun h = record { empty = h.empty.1; features = h.features; params = h.params; sends = h.sends; assigns = h.assigns; slots = h.slots; few_features = h.few_features; few_params = h.few_params; few_sends = h.few_sends; few_assigns = h.few_assigns; few_nodes = h.few_nodes }
+
+-- a body begins, or the text ends
+pub body_begun : {place : Place} {n : InHand} {t : Tally} → IsCounted place n t → IsCounted in_body n t
 body_begun h = record { empty = tt; features = h.features; params = h.params; sends = h.sends; assigns = h.assigns; slots = h.slots; few_features = h.few_features; few_params = h.few_params; few_sends = h.few_sends; few_assigns = h.few_assigns; few_nodes = h.few_nodes }
 
 -- ---- formulas and expressions
@@ -231,11 +235,11 @@ if_either true n o t h k = h
 if_either false n o t h k = k
 
 -- One more token that breaks nothing.
-counted_in : (m : Mode) (s : State) (t : Tally) (token : Token) → IsCounted (place_of m) (in_hand s) t → AreWithin t (emitted (record s { mode = m }) token) → IfSome (step_in m (record s { mode = m }) token) (λ n. Counted n (tallied t (emitted (record s { mode = m }) token)))
+pub counted_in : (m : Mode) (s : State) (t : Tally) (token : Token) → IsCounted (place_of m) (in_hand s) t → AreWithin t (emitted (record s { mode = m }) token) → IfSome (step_in m (record s { mode = m }) token) (λ n. Counted n (tallied t (emitted (record s { mode = m }) token)))
 counted_in Begin s t (Id w) h b = if_either (bytes_eq w features_word) (record s { mode = AfterFeatures }) (opens_constraint s w) (record t { marks = [] }) (marked [] h) (if_so (bytes_eq w constraint_word) (record s { mode = InConstraint }) (record t { marks = [] }) (marked [] h))
 counted_in Begin s t At h b = h
 counted_in Begin s t ClassWord h b = h
-counted_in Begin s t End h b = h
+counted_in Begin s t End h b = body_begun h
 counted_in AfterFeatures s t (Id w) h b = with_feature s t w h b.0
 counted_in AfterFeature s t Comma h b = h
 counted_in AfterFeature s t Semicolon h b = h
@@ -243,11 +247,11 @@ counted_in AfterFeatureComma s t (Id w) h b = with_feature s t w h b.0
 counted_in Start s t (Id w) h b = if_so (bytes_eq w constraint_word) (record s { mode = InConstraint }) (record t { marks = [] }) (marked [] h)
 counted_in Start s t At h b = h
 counted_in Start s t ClassWord h b = h
-counted_in Start s t End h b = h
+counted_in Start s t End h b = body_begun h
 counted_in InConstraint s t token h b = formula_counted s (counted t (formula.role s.formula token)) (of_formula s.formula token h) (formula.step s.features s.formula token)
 counted_in BetweenClasses s t At h b = h
 counted_in BetweenClasses s t ClassWord h b = h
-counted_in BetweenClasses s t End h b = h
+counted_in BetweenClasses s t End h b = body_begun h
 counted_in (AfterAt node.Class) s t (Id w) h b = marked (t.marks ++ w ∷ []) h
 counted_in (AfterAt node.Member) s t (Id w) h b = marked (t.marks ++ w ∷ []) h
 counted_in (AfterAt node.Method) s t (Id w) h b = marked (t.marks ++ w ∷ []) h
@@ -309,7 +313,7 @@ counted_in InMethods s t At h b = h
 counted_in InMethods s t (Id w) h b = marked [] h
 counted_in InMethods s t CloseBrace h b = class_ended (in_hand s) t h
 counted_in AfterResult s t (Id w) h b = method_named (in_hand s) t w h
-counted_in AfterMethodName s t OpenParen h b = h
+counted_in AfterMethodName s t OpenParen h b = params_begun h
 counted_in InMethodBody s t ReturnWord h b = body_begun h
 counted_in InExpression s t token h b = expression_counted s t token h b (expression.step s.features s.expression token) refl
 counted_in AfterBody s t CloseBrace h b = h

@@ -23,11 +23,11 @@ unread_none e h = go e.mode h
     go (expression_variant.Done x) h = absurd (let no : ⊥ = cc h in no)
     go _ h = refl
 
-some_same : (m n : expression.State) → Some m ≡ Some n → m ≡ n
+pub some_same : (m n : expression.State) → Some m ≡ Some n → m ≡ n
 some_same m n e = cc e
 
 -- nothing is read behind the end of an expression
-end_of_run : (fs : List (List ℕ)) (us : List Token) (m n : expression.State) (rs : List Role) → expression.is_done m ≡ true → expression.run fs us m ≡ (Some n, rs) → (us ≡ []) × (m ≡ n) × (rs ≡ [])
+pub end_of_run : (fs : List (List ℕ)) (us : List Token) (m n : expression.State) (rs : List Role) → expression.is_done m ≡ true → expression.run fs us m ≡ (Some n, rs) → (us ≡ []) × (m ≡ n) × (rs ≡ [])
 unfolding expression.run
 end_of_run fs [] m n rs whole h = (refl, some_same m n (ap (λ (p : expression.Run). p.0) h), sym (ap (λ (p : expression.Run). p.1) h))
 end_of_run fs (t ∷ us) m n rs whole h =

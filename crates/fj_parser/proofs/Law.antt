@@ -1,6 +1,6 @@
 -- The laws of the machine: it reads the texts of projects and no others, and each state can be completed.
 use Rattle.std.proofs.Common.{◌≡◌, ℕ, Bool, true, false, List, [], ◌∷◌, ◌++◌, Option, Some, None, refl, sym, ◌∙◌, ap, subst, append_assoc}
-use Rattle.std.proofs.lemmas.Option.{none-some}
+use Rattle.std.proofs.lemmas.Option.{none-some, same_Some}
 use Rattle.cfj_model.specs.Faults.{projects}
 use Rattle.cfj_model.specs.FormulaGrammar.{IffTree}
 use Rattle.cfj_model.specs.Grammar.{ClassTree, Tree, spell}
@@ -34,7 +34,7 @@ use Rattle.fj_parser.proofs.Standing.{reached, waiting_settled, each_once}
 -- ---- what is read to the end is a text
 
 -- a run that reaches a mode in which a text may stop
-reach_stops : (m : Mode) (o : Option State) → is_whole_in m ≡ true → Reaches m o → is_whole o ≡ true
+pub reach_stops : (m : Mode) (o : Option State) → is_whole_in m ≡ true → Reaches m o → is_whole o ≡ true
 reach_stops m None e h = absurd h
 reach_stops m (Some n) e h = ap is_whole_in h ∙ e
 
@@ -46,7 +46,7 @@ not_at_end [] (x ∷ xs) [] e = absurd (let no : ⊥ = cc e in no)
 not_at_end fs xs (k ∷ ks) e = absurd (let no : ⊥ = cc e in no)
 
 -- tokens that lead to the end
-closed_text : (ts : List Token) → Reaches AtEnd (run ts start).0 → (x : Tree) × (ts ≡ spell x (End ∷ []))
+pub closed_text : (ts : List Token) → Reaches AtEnd (run ts start).0 → (x : Tree) × (ts ≡ spell x (End ∷ []))
 closed_text ts h = let t = text_of ts (reach_stops AtEnd (run ts start).0 refl h) in go t.tree t.rest t.tail t.spelled
   where
     go : (x : Tree) (rest : List Token) → Tail rest → ts ≡ spell x rest → (x : Tree) × (ts ≡ spell x (End ∷ []))
@@ -56,14 +56,14 @@ closed_text ts h = let t = text_of ts (reach_stops AtEnd (run ts start).0 refl h
         not_at_end x.features x.constraints x.classes e
 
 -- a text that is read so far may end in this mode
-abbrev may_end : Mode → Bool
+abbrev pub may_end : Mode → Bool
 may_end Begin = true
 may_end Start = true
 may_end BetweenClasses = true
 may_end _ = false
 
 -- and may stop there
-end_stops : (m : Mode) → may_end m ≡ true → is_whole_in m ≡ true
+pub end_stops : (m : Mode) → may_end m ≡ true → is_whole_in m ≡ true
 end_stops Begin e = refl
 end_stops Start e = refl
 end_stops BetweenClasses e = refl
@@ -104,7 +104,7 @@ no_end_in_expression : (s n : State) → step_in InExpression s End ≡ Some n �
 no_end_in_expression s n h = none-some n (ap (in_expression s) (sym (expression_refuses_end s.features s.expression)) ∙ h)
 
 -- only there does the machine take the end
-end_at_open : (m : Mode) (s n : State) → step_in m s End ≡ Some n → may_end m ≡ true
+pub end_at_open : (m : Mode) (s n : State) → step_in m s End ≡ Some n → may_end m ≡ true
 end_at_open Begin s n h = refl
 end_at_open Start s n h = refl
 end_at_open BetweenClasses s n h = refl
@@ -114,6 +114,19 @@ end_at_open (AfterMark node.Class) s n h = absurd (let no : ⊥ = cc h in no)
 end_at_open (AfterParams owner.Constructor) s n h = absurd (let no : ⊥ = cc h in no)
 end_at_open (AfterParams owner.Method) s n h = absurd (let no : ⊥ = cc h in no)
 end_at_open _ s n h = absurd (let no : ⊥ = cc h in no)
+
+-- and the end behind it is the text's
+pub end_ends : (m : Mode) (s n : State) → step_in m s End ≡ Some n → n.mode ≡ AtEnd
+end_ends m s n h = by m (end_at_open m s n h) h
+  where
+    is_end : Some (record s { mode = AtEnd }) ≡ Some n → n.mode ≡ AtEnd
+    is_end h = ap (λ (x : State). x.mode) (sym (same_Some (record s { mode = AtEnd }) n h))
+
+    by : (m : Mode) → may_end m ≡ true → step_in m s End ≡ Some n → n.mode ≡ AtEnd
+    by Begin e h = is_end h
+    by Start e h = is_end h
+    by BetweenClasses e h = is_end h
+    by _ e h = absurd (let no : ⊥ = cc e in no)
 
 -- where the end may follow, the tokens so far are the text of a tree
 sound : (front : List Token) (s n : State) (rs : List Role) → run front start ≡ (Some s, rs) → step s End ≡ Some n → (x : Tree) × (front ≡ spell x [])
@@ -139,28 +152,32 @@ closes_front front s rs h =
 -- ---- what waits is settled first
 
 -- more roles behind those that begin so
-begun_on : (waiting own others rs : List Role) → rs ≡ own ++ others → Begun waiting own → Settles waiting rs
+pub begun_on : (waiting own others rs : List Role) → rs ≡ own ++ others → Begun waiting own → Settles waiting rs
 begun_on waiting own others rs all (as_waited more e) = alike (more ++ others) (all ∙ ap (λ q. q ++ others) e ∙ append_assoc waiting more others)
 begun_on waiting own others rs all (as_a_cast d more e some few) = as_cast d (more ++ others) (all ∙ ap (λ q. q ++ others) e) some few
 
 -- in a method's body
-body_settles : (ts : List Token) (s : State) (x : Tree) (rs : List Role) → run ts (in_body s s.expression) ≡ (Some (ended x), rs) → Settles (expression.pending s.expression) rs
-body_settles ts s x rs h =
-    let stops : is_whole (run ts (in_body s s.expression)).0 ≡ true = ap (λ (p : Run State). is_whole p.0) h in
+body_settles : (ts : List Token) (s n : State) (rs : List Role) → is_whole_in n.mode ≡ true → run ts (in_body s s.expression) ≡ (Some n, rs) → Settles (expression.pending s.expression) rs
+body_settles ts s n rs e h =
+    let stops : is_whole (run ts (in_body s s.expression)).0 ≡ true = ap (λ (p : Run State). is_whole p.0) h ∙ e in
     let r : ReadExpression ts s s.expression = expression_read ts s s.expression stops in
     let own : List Role = (expression.run s.features r.us s.expression).1 in
     let ran : expression.run s.features r.us s.expression ≡ (Some r.last, own) = ap (λ (o : Option expression.State). (o, own)) r.ran in
     let whole : run (r.us ++ r.rest) (in_body s s.expression) ≡ with_roles own (run r.rest (with_method s r.value)) = expression_runs s s.expression r.last r.us own r.value (read_goes ts s s.expression stops) ran r.whole r.rest in
     begun_on (expression.pending s.expression) own (run r.rest (with_method s r.value)).1 rs (ap (λ (p : Run State). p.1) (sym h ∙ ap (λ w. run w (in_body s s.expression)) r.split ∙ whole)) (waited_first s.features r.us s.expression r.last own ran (whole_done r.last r.value r.whole))
 
-settles : (ts : List Token) (s : State) (x : Tree) (rs : List Role) → run ts s ≡ (Some (ended x), rs) → Settles (pending s) rs
-settles ts s x rs h = by s.mode refl
+-- by a run to where a text may stop
+pub run_settles : (ts : List Token) (s n : State) (rs : List Role) → is_whole_in n.mode ≡ true → run ts s ≡ (Some n, rs) → Settles (pending s) rs
+run_settles ts s n rs e h = by s.mode refl
   where
     by : (m : Mode) → s.mode ≡ m → Settles (pending_in m s) rs
     by InExpression here =
         let same : s ≡ in_body s s.expression = ap (λ m. record s { mode = m }) here in
-        body_settles ts s x rs (ap (run ts) (sym same) ∙ h)
+        body_settles ts s n rs e (ap (run ts) (sym same) ∙ h)
     by _ here = alike rs refl
+
+pub settles : (ts : List Token) (s : State) (x : Tree) (rs : List Role) → run ts s ≡ (Some (ended x), rs) → Settles (pending s) rs
+settles ts s x rs h = run_settles ts s (ended x) rs refl h
 
 -- ---- all laws together
 

@@ -49,7 +49,7 @@ semi_read (Semicolon ∷ ts) s h = record { rest = ts; spelled = refl; shorter =
 semi_read _ s h = never h
 
 -- a constructor behind its name and the bracket
-abbrev ctor_rest : CtorTree → List Token → List Token
+abbrev pub ctor_rest : CtorTree → List Token → List Token
 ctor_rest c rest =
     separated Comma spell_param c.params
     (CloseParen
@@ -62,7 +62,7 @@ ctor_rest c rest =
     ∷ in_order spell_assign c.assigns (CloseBrace ∷ rest)))))))
 
 -- the state behind such a constructor
-abbrev behind_this : State → CtorTree → State
+abbrev pub behind_this : State → CtorTree → State
 behind_this s c = behind_ctor (class_with [] [] [] c []) s
 
 -- a constructor of its parts
@@ -77,7 +77,7 @@ ctor_of ts s p o t m a =
     }
 
 -- a constructor behind its name and the bracket
-ctor_read : (k : ℕ) (ts : List Token) → length ts < k → (s : State) → Accepts ts (record s { mode = InParams owner.Constructor; params = []; sends = []; assigns = []; colors = 0; of = unnamed; last = unnamed }) → Read CtorTree ctor_rest (behind_this s) ts
+pub ctor_read : (k : ℕ) (ts : List Token) → length ts < k → (s : State) → Accepts ts (record s { mode = InParams owner.Constructor; params = []; sends = []; assigns = []; colors = 0; of = unnamed; last = unnamed }) → Read CtorTree ctor_rest (behind_this s) ts
 ctor_read k ts le s h =
     let n : State = record s { params = []; sends = []; assigns = []; colors = 0; of = unnamed; last = unnamed } in
     let p = params_read owner.Constructor k ts le n h in

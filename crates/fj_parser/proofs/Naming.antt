@@ -29,16 +29,16 @@ last_holds true = refl
 last_holds false = refl
 
 -- some identifier
-some_name : List ℕ
+pub some_name : List ℕ
 some_name = codes "$"
 
 -- it is one, whatever Unicode says of other characters
-some_name_is : is_identifier some_name ≡ true
+pub some_name_is : is_identifier some_name ≡ true
 unfolding is_identifier is_reserved is_utf8 some_name chars encode
 some_name_is = search last_holds
 
 -- Where the name of an assigned field has been read, it is an identifier.
-abbrev Kept : Mode → State → Type 0
+abbrev pub Kept : Mode → State → Type 0
 Kept AfterAssigned s = is_identifier s.last ≡ true
 Kept AfterEquals s = is_identifier s.last ≡ true
 Kept _ s = Unit {0}
@@ -159,7 +159,7 @@ both true b e = (refl, e)
 both false b e = absurd (let no : ⊥ = cc e in no)
 
 -- a run over tokens that a text can have keeps it
-kept_run : (ts : List Token) (s n : State) → Kept s.mode s → are_read ts ≡ true → (run ts s).0 ≡ Some n → Kept n.mode n
+pub kept_run : (ts : List Token) (s n : State) → Kept s.mode s → are_read ts ≡ true → (run ts s).0 ≡ Some n → Kept n.mode n
 unfolding run_of
 kept_run [] s n k r h = let same : s ≡ n = cc h in subst (λ (x : State). Kept x.mode x) same k
 kept_run (t ∷ ts) s n k r h =
@@ -171,18 +171,18 @@ kept_run (t ∷ ts) s n k r h =
     go ih q (Some x) kept h = ih x kept h
 
 -- an identifier with which the machine goes on in a mode
-record GoesIn (m : Mode) (s : State) : Type 0 where
-  name : List ℕ
-  next : State
-  is : is_identifier name ≡ true
-  goes : step_in m s (Id name) ≡ Some next
+pub record GoesIn (m : Mode) (s : State) : Type 0 where
+  pub name : List ℕ
+  pub next : State
+  pub is : is_identifier name ≡ true
+  pub goes : step_in m s (Id name) ≡ Some next
 
 -- by the identifier above
 by_some : (m : Mode) (s n : State) → step_in m s (Id some_name) ≡ Some n → GoesIn m s
 by_some m s n e = record { name = some_name; next = n; is = some_name_is; goes = e }
 
 -- where some identifier could stand, one can
-name_goes : (m : Mode) (s : State) → Kept m s → takes_name_in m s ≡ true → GoesIn m s
+pub name_goes : (m : Mode) (s : State) → Kept m s → takes_name_in m s ≡ true → GoesIn m s
 name_goes Begin s k e =
     let n : State = record s { mode = AfterFeatures } in
     record { name = features_word; next = n; is = features_is_identifier; goes = ap (λ b. if b then Some n else opens_constraint s features_word) (same_name features_word) }

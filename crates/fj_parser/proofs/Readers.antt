@@ -9,7 +9,7 @@ use Rattle.cfj_model.specs.declared.fault.FaultKind.TheVariants as fault
 use Rattle.cfj_model.specs.Faults.{Language, Begins, CanGoOn, IsMisplaced, reserved, other, no_name}
 use Rattle.fj_symbols.specs.Views.{are_read}
 use Rattle.fj_parser.specs.Laws.{Settles, alike, as_cast, Closes, GoesByName, Reads}
-use Rattle.fj_parser.specs.Readers.{Reader, Run, with_roles, then_run, run_of, misplaced_kind}
+use Rattle.fj_parser.specs.Readers.{Reader, SettlesEach, Run, with_roles, then_run, run_of, misplaced_kind}
 
 -- two lists that begin one list, with the same length
 pub same_front : (a b x y : List Role) → length a ≡ length b → a ++ x ≡ b ++ y → a ≡ b
@@ -42,7 +42,7 @@ module _ (m : Reader) where
   on_from b (None, rs) = (None, rs)
   on_from b (Some s, rs) = with_roles rs (run_of m b s)
 
-  roles_on : (rs : List Role) (b : List Token) (p : Run m.State) → with_roles rs (on_from b p) ≡ on_from b (with_roles rs p)
+  pub roles_on : (rs : List Role) (b : List Token) (p : Run m.State) → with_roles rs (on_from b p) ≡ on_from b (with_roles rs p)
   roles_on rs b (None, qs) = refl
   roles_on rs b (Some s, qs) = ap (λ x. ((run_of m b s).0, x)) (sym (append_assoc rs qs (run_of m b s).1))
 
@@ -82,9 +82,9 @@ module _ (m : Reader) where
       let one : (run_of m (front ++ t ∷ []) m.start).0 ≡ None = ap (λ p. p.0) (run_append front (t ∷ []) m.start ∙ ap (on_from (t ∷ [])) h) ∙ stuck_run t s stuck in
       ap (λ p. p.0) (run_append (front ++ t ∷ []) more m.start) ∙ stuck_on more (run_of m (front ++ t ∷ []) m.start) one
 
--- ---- what the laws give
+-- ---- where each token is settled or waits
 
-module _ {V : Type 0} (l : Language V) (m : Reader) (laws : Reads l m) where
+module _ (m : Reader) (settles : SettlesEach m) where
   -- before the first token nothing is read
   nothing_read : run_of m [] m.start ≡ (Some m.start, [])
   unfolding run_of
@@ -102,17 +102,26 @@ module _ {V : Type 0} (l : Language V) (m : Reader) (laws : Reads l m) where
       go ih None goes h = absurd (none-some n h)
       go ih (Some x) goes h =
           let long : length (m.emitted s t ++ (run_of m ts x).1) ≡ length (m.emitted s t) + length (run_of m ts x).1 = length-append (m.emitted s t) (run_of m ts x).1 in
-          let one : length (m.emitted s t) + length (m.pending x) ≡ suc (length (m.pending s)) = laws.each front s x qs t ran goes in
+          let one : length (m.emitted s t) + length (m.pending x) ≡ suc (length (m.pending s)) = settles.each front s x qs t ran goes in
           let others : length (run_of m ts x).1 + length (m.pending n) ≡ length (m.pending x) + length ts = ih x goes h in
           omega arith
 
   -- behind a front as many roles are settled or wait as it has tokens
-  pub front_long : (ts : List Token) (s : m.State) (rs : List Role) → run_of m ts m.start ≡ (Some s, rs) → length rs + length (m.pending s) ≡ length ts
-  front_long ts s rs h =
+  pub roles_long : (ts : List Token) (s : m.State) (rs : List Role) → run_of m ts m.start ≡ (Some s, rs) → length rs + length (m.pending s) ≡ length ts
+  roles_long ts s rs h =
       let long : length (run_of m ts m.start).1 + length (m.pending s) ≡ length (m.pending m.start) + length ts = run_long [] ts m.start s [] nothing_read (ap (λ p. p.0) h) in
       let is : length (run_of m ts m.start).1 ≡ length rs = ap (λ p. length p.1) h in
-      let none : length (m.pending m.start) ≡ 0 = ap length laws.first in
+      let none : length (m.pending m.start) ≡ 0 = ap length settles.first in
       omega arith
+
+-- ---- what the laws give
+
+pub settles_each : {V : Type 0} (l : Language V) (m : Reader) → Reads l m → SettlesEach m
+settles_each l m laws = record { first = laws.first; each = laws.each }
+
+module _ {V : Type 0} (l : Language V) (m : Reader) (laws : Reads l m) where
+  front_long : (ts : List Token) (s : m.State) (rs : List Role) → run_of m ts m.start ≡ (Some s, rs) → length rs + length (m.pending s) ≡ length ts
+  front_long ts s rs h = roles_long m (settles_each l m laws) ts s rs h
 
   -- what is read begins a text, in the roles that are settled and those that wait
   pub reads_begin : (ts : List Token) (s : m.State) (rs : List Role) → run_of m ts m.start ≡ (Some s, rs) → Begins l ts (rs ++ m.pending s)

@@ -121,18 +121,18 @@ pub data Tail : List Token → Type 0 where
   no_end : Tail []
   an_end : Tail (End ∷ [])
 
-record Classes (ts : List Token) : Type 0 where
-  classes : List ClassTree
-  rest : List Token
-  spelled : ts ≡ in_order spell_class classes rest
-  tail : Tail rest
+pub record Classes (ts : List Token) : Type 0 where
+  pub classes : List ClassTree
+  pub rest : List Token
+  pub spelled : ts ≡ in_order spell_class classes rest
+  pub tail : Tail rest
 
 -- a class and more
 class_and : (ts : List Token) (fs : List (List ℕ)) (gs : List Formula) (cs : List Class) (c : ReadClass ts fs gs cs) → Classes c.rest → Classes ts
 class_and ts fs gs cs c t = record { classes = c.part ∷ t.classes; rest = t.rest; spelled = c.spelled ∙ ap (spell_class c.part) t.spelled; tail = t.tail }
 
 -- {class}, and the end or none
-classes_read : (k : ℕ) (ts : List Token) → length ts < k → (fs : List (List ℕ)) (gs : List Formula) (cs : List Class) → Accepts ts (behind fs gs cs) → Classes ts
+pub classes_read : (k : ℕ) (ts : List Token) → length ts < k → (fs : List (List ℕ)) (gs : List Formula) (cs : List Class) → Accepts ts (behind fs gs cs) → Classes ts
 unfolding run_of
 classes_read zero ts le fs gs cs h = absurd (omega arith)
 classes_read (suc k) [] le fs gs cs h = record { classes = []; rest = []; spelled = refl; tail = no_end }

@@ -39,7 +39,7 @@ features_before (f ∷ fs) a b = ap (λ ts. Id features_word ∷ (Id f ∷ ts)) 
 marks_before : (ms : List (List ℕ)) (a b : List Token) → spell_marks ms (a ++ b) ≡ spell_marks ms a ++ b
 marks_before = in_order_before spell_mark (λ m a b. refl)
 
-field_before : (d : Declared) (a b : List Token) → spell_field d (a ++ b) ≡ spell_field d a ++ b
+pub field_before : (d : Declared) (a b : List Token) → spell_field d (a ++ b) ≡ spell_field d a ++ b
 field_before d a b = marks_before d.marks (Id d.of ∷ (Id d.name ∷ (Semicolon ∷ a))) b
 
 param_before : (d : Declared) (a b : List Token) → spell_param d (a ++ b) ≡ spell_param d a ++ b
@@ -66,14 +66,14 @@ body_before k a b =
     (ap (λ ts. separated Comma spell_sent k.sends (CloseParen ∷ (Semicolon ∷ ts))) (assigns_before k a b)
     ∙ sends_before k (in_order spell_assign k.assigns (CloseBrace ∷ a)) b)
 
-ctor_before : (k : ClassTree) (a b : List Token) → spell_ctor k (a ++ b) ≡ spell_ctor k a ++ b
+pub ctor_before : (k : ClassTree) (a b : List Token) → spell_ctor k (a ++ b) ≡ spell_ctor k a ++ b
 ctor_before k a b =
     ap (λ ts. Id k.name ∷ (OpenParen ∷ ts))
     (ap (λ ts. separated Comma spell_param k.params (CloseParen ∷ ts)) (body_before k a b)
     ∙ separated_before Comma spell_param param_before k.params (CloseParen ∷ body k a) b)
 
 -- a method behind its parameters, and behind its marks
-abbrev returned : MethodTree → List Token → List Token
+abbrev pub returned : MethodTree → List Token → List Token
 returned m rest = OpenBrace ∷ (ReturnWord ∷ spell_expr m.body (Semicolon ∷ (CloseBrace ∷ rest)))
 
 abbrev method_words : MethodTree → List Token → List Token
@@ -82,10 +82,12 @@ method_words m rest = Id m.result ∷ (Id m.name ∷ (OpenParen ∷ separated Co
 returned_before : (m : MethodTree) (a b : List Token) → returned m (a ++ b) ≡ returned m a ++ b
 returned_before m a b = ap (λ ts. OpenBrace ∷ (ReturnWord ∷ ts)) (sym (expression.spell_before m.body (Semicolon ∷ (CloseBrace ∷ a)) b))
 
-method_before : (m : MethodTree) (a b : List Token) → spell_method m (a ++ b) ≡ spell_method m a ++ b
+pub method_rest_before : (m : MethodTree) (a b : List Token) → separated Comma spell_param m.params (CloseParen ∷ returned m (a ++ b)) ≡ separated Comma spell_param m.params (CloseParen ∷ returned m a) ++ b
+method_rest_before m a b = ap (λ ts. separated Comma spell_param m.params (CloseParen ∷ ts)) (returned_before m a b) ∙ separated_before Comma spell_param param_before m.params (CloseParen ∷ returned m a) b
+
+pub method_before : (m : MethodTree) (a b : List Token) → spell_method m (a ++ b) ≡ spell_method m a ++ b
 method_before m a b =
-    ap (λ ts. spell_marks m.marks (Id m.result ∷ (Id m.name ∷ (OpenParen ∷ ts))))
-    (ap (λ ts. separated Comma spell_param m.params (CloseParen ∷ ts)) (returned_before m a b) ∙ separated_before Comma spell_param param_before m.params (CloseParen ∷ returned m a) b)
+    ap (λ ts. spell_marks m.marks (Id m.result ∷ (Id m.name ∷ (OpenParen ∷ ts)))) (method_rest_before m a b)
     ∙ marks_before m.marks (method_words m a) b
 
 -- the members of a class, and its brace
@@ -121,10 +123,10 @@ feature_roles_before : (fs : List (List ℕ)) (a b : List Role) → roles_featur
 feature_roles_before [] a b = refl
 feature_roles_before (f ∷ fs) a b = ap (λ rs. used_name features_word ∷ (feature_name f ∷ rs)) (each_behind_before plain roles_feature (λ w x y. refl) fs (plain ∷ a) b)
 
-mark_roles_before : (ms : List (List ℕ)) (a b : List Role) → roles_marks ms (a ++ b) ≡ roles_marks ms a ++ b
+pub mark_roles_before : (ms : List (List ℕ)) (a b : List Role) → roles_marks ms (a ++ b) ≡ roles_marks ms a ++ b
 mark_roles_before = in_order_before roles_mark (λ m a b. refl)
 
-field_roles_before : (d : Declared) (a b : List Role) → roles_field d (a ++ b) ≡ roles_field d a ++ b
+pub field_roles_before : (d : Declared) (a b : List Role) → roles_field d (a ++ b) ≡ roles_field d a ++ b
 field_roles_before d a b = mark_roles_before d.marks (used_name d.of ∷ (field_name d.name ∷ (plain ∷ a))) b
 
 param_roles_before : (d : Declared) (a b : List Role) → roles_param d (a ++ b) ≡ roles_param d a ++ b
@@ -145,7 +147,7 @@ body_roles_before k a b =
     (ap (λ rs. separated plain roles_sent k.sends (plain ∷ (plain ∷ rs))) (in_order_before roles_assign assign_roles_before k.assigns (plain ∷ a) b)
     ∙ separated_before plain roles_sent sent_roles_before k.sends (plain ∷ (plain ∷ in_order roles_assign k.assigns (plain ∷ a))) b)
 
-ctor_roles_before : (k : ClassTree) (a b : List Role) → roles_ctor k (a ++ b) ≡ roles_ctor k a ++ b
+pub ctor_roles_before : (k : ClassTree) (a b : List Role) → roles_ctor k (a ++ b) ≡ roles_ctor k a ++ b
 ctor_roles_before k a b =
     ap (λ rs. used_name k.name ∷ (plain ∷ rs))
     (ap (λ rs. separated plain roles_param k.params (plain ∷ rs)) (body_roles_before k a b)
@@ -154,7 +156,7 @@ ctor_roles_before k a b =
 method_param_roles_before : (d : Declared) (a b : List Role) → roles_method_param d (a ++ b) ≡ roles_method_param d a ++ b
 method_param_roles_before d a b = mark_roles_before d.marks (used_name d.of ∷ (method_param_name d.name ∷ a)) b
 
-abbrev returned_roles : MethodTree → List Role → List Role
+abbrev pub returned_roles : MethodTree → List Role → List Role
 returned_roles m rest = plain ∷ (plain ∷ roles_expr 0 m.body (plain ∷ (plain ∷ rest)))
 
 abbrev method_word_roles : MethodTree → List Role → List Role
@@ -163,10 +165,12 @@ method_word_roles m rest = used_name m.result ∷ (method_name m.name ∷ (plain
 returned_roles_before : (m : MethodTree) (a b : List Role) → returned_roles m (a ++ b) ≡ returned_roles m a ++ b
 returned_roles_before m a b = ap (λ rs. plain ∷ (plain ∷ rs)) (sym (expression.roles_before 0 m.body (plain ∷ (plain ∷ a)) b))
 
-method_roles_before : (m : MethodTree) (a b : List Role) → roles_method m (a ++ b) ≡ roles_method m a ++ b
+pub method_rest_roles_before : (m : MethodTree) (a b : List Role) → separated plain roles_method_param m.params (plain ∷ returned_roles m (a ++ b)) ≡ separated plain roles_method_param m.params (plain ∷ returned_roles m a) ++ b
+method_rest_roles_before m a b = ap (λ rs. separated plain roles_method_param m.params (plain ∷ rs)) (returned_roles_before m a b) ∙ separated_before plain roles_method_param method_param_roles_before m.params (plain ∷ returned_roles m a) b
+
+pub method_roles_before : (m : MethodTree) (a b : List Role) → roles_method m (a ++ b) ≡ roles_method m a ++ b
 method_roles_before m a b =
-    ap (λ rs. roles_marks m.marks (used_name m.result ∷ (method_name m.name ∷ (plain ∷ rs))))
-    (ap (λ rs. separated plain roles_method_param m.params (plain ∷ rs)) (returned_roles_before m a b) ∙ separated_before plain roles_method_param method_param_roles_before m.params (plain ∷ returned_roles m a) b)
+    ap (λ rs. roles_marks m.marks (used_name m.result ∷ (method_name m.name ∷ (plain ∷ rs)))) (method_rest_roles_before m a b)
     ∙ mark_roles_before m.marks (method_word_roles m a) b
 
 abbrev member_roles : ClassTree → List Role → List Role
@@ -217,10 +221,10 @@ features_settled : (fs : List (List ℕ)) (rest : List Role) → are_settled res
 features_settled [] rest e = e
 features_settled (f ∷ fs) rest e = each_behind_settled roles_feature (λ w rs r. r) fs (plain ∷ rest) e
 
-marks_settled : (ms : List (List ℕ)) (rest : List Role) → are_settled rest ≡ true → are_settled (roles_marks ms rest) ≡ true
+pub marks_settled : (ms : List (List ℕ)) (rest : List Role) → are_settled rest ≡ true → are_settled (roles_marks ms rest) ≡ true
 marks_settled = in_order_settled roles_mark (λ m rs r. r)
 
-field_settled : (d : Declared) (rest : List Role) → are_settled rest ≡ true → are_settled (roles_field d rest) ≡ true
+pub field_settled : (d : Declared) (rest : List Role) → are_settled rest ≡ true → are_settled (roles_field d rest) ≡ true
 field_settled d rest e = marks_settled d.marks (used_name d.of ∷ (field_name d.name ∷ (plain ∷ rest))) e
 
 param_settled : (d : Declared) (rest : List Role) → are_settled rest ≡ true → are_settled (roles_param d rest) ≡ true
@@ -235,13 +239,13 @@ sent_settled s rest e = marks_settled s.marks (sent_name s.name ∷ rest) e
 assign_settled : (s : Named) (rest : List Role) → are_settled rest ≡ true → are_settled (roles_assign s rest) ≡ true
 assign_settled s rest e = marks_settled s.marks (plain ∷ (plain ∷ (assigned_name s.name ∷ (plain ∷ (used_name s.name ∷ (plain ∷ rest)))))) e
 
-ctor_settled : (k : ClassTree) (rest : List Role) → are_settled rest ≡ true → are_settled (roles_ctor k rest) ≡ true
+pub ctor_settled : (k : ClassTree) (rest : List Role) → are_settled rest ≡ true → are_settled (roles_ctor k rest) ≡ true
 ctor_settled k rest e =
     separated_settled roles_param param_settled k.params (plain ∷ body_roles k rest)
     (separated_settled roles_sent sent_settled k.sends (plain ∷ (plain ∷ in_order roles_assign k.assigns (plain ∷ rest)))
     (in_order_settled roles_assign assign_settled k.assigns (plain ∷ rest) e))
 
-method_settled : (m : MethodTree) (rest : List Role) → are_settled rest ≡ true → are_settled (roles_method m rest) ≡ true
+pub method_settled : (m : MethodTree) (rest : List Role) → are_settled rest ≡ true → are_settled (roles_method m rest) ≡ true
 method_settled m rest e =
     marks_settled m.marks (method_word_roles m rest)
     (separated_settled roles_method_param method_param_settled m.params (plain ∷ returned_roles m rest) (expression.roles_settled 0 m.body (plain ∷ (plain ∷ rest)) e))

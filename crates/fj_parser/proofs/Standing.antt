@@ -243,7 +243,7 @@ waiting_settled _ s rs h = ap are_settled (append-nil rs) ∙ h.settled
 -- ---- steps
 
 -- and so behind a step, if there is one
-abbrev StandsIn : Option State → List Role → Type 0
+abbrev pub StandsIn : Option State → List Role → Type 0
 StandsIn None rs = Unit {0}
 StandsIn (Some n) rs = Stands n rs
 
@@ -348,7 +348,7 @@ expression_once s n t here (Some e) goes g = by (expression.expression e) refl g
         omega (arith, once)
 
 -- a step keeps it
-stands_step : (s : State) (t : Token) (rs : List Role) → Stands s rs → StandsIn (step s t) (rs ++ emitted s t)
+pub stands_step : (s : State) (t : Token) (rs : List Role) → Stands s rs → StandsIn (step s t) (rs ++ emitted s t)
 stands_step s t rs h = by (is_declaring s.mode) refl
   where
     hosted : (m : Mode) → s.mode ≡ m → is_declaring m ≡ false → Holds m s rs → StandsIn (step_in m s t) (rs ++ emitted_in m s t)
@@ -382,7 +382,7 @@ each_once s n t rs h goes = by (is_declaring s.mode) refl
     by false e = hosted s.mode refl e h.holds goes
 
 -- and so does a run
-stands_run : (ts : List Token) (s n : State) (rs qs : List Role) → Stands s rs → run ts s ≡ (Some n, qs) → Stands n (rs ++ qs)
+pub stands_run : (ts : List Token) (s n : State) (rs qs : List Role) → Stands s rs → run ts s ≡ (Some n, qs) → Stands n (rs ++ qs)
 unfolding run_of
 stands_run [] s n rs qs h e =
     let same : s ≡ n = same_Some s n (ap (λ (p : Run State). p.0) e) in

@@ -6,10 +6,10 @@ use Rattle.expression_reader.specs.Reading.{owed}
 use Rattle.fj_parser.specs.Machine.{State}
 use Rattle.fj_parser.specs.declared.mode.Node.TheVariants as node
 use Rattle.fj_parser.specs.declared.mode.Mode.{Mode}
-use Rattle.fj_parser.specs.declared.mode.Mode.TheVariants.{Begin, AfterFeatures, AfterFeature, AfterFeatureComma, Start, InConstraint, BetweenClasses, AfterAt, AfterMark, AfterClass, InMethods, AfterResult, InExpression, AfterBody, AtEnd}
+use Rattle.fj_parser.specs.declared.mode.Mode.TheVariants.{Begin, AfterFeatures, AfterFeature, AfterFeatureComma, Start, InConstraint, BetweenClasses, AfterAt, AfterMark, AfterClass, InMethods, AfterResult, AfterMethodName, InExpression, AfterBody, AtEnd}
 
 -- The places of a text, by what may be in hand there: before a class's name nothing of a class; behind a constructor, before a
--- method's name, no parameters; before a method's body no expression; and in it anything.
+-- method's parameters, no parameters; before a method's body no expression; and in it, or at the end of the text, anything.
 pub data Place : Type 0 where
   before_class : Place
   before_method : Place
@@ -28,13 +28,14 @@ place_of BetweenClasses = before_class
 place_of (AfterAt node.Class) = before_class
 place_of (AfterMark node.Class) = before_class
 place_of AfterClass = before_class
-place_of AtEnd = before_class
 place_of InMethods = before_method
 place_of (AfterAt node.Method) = before_method
 place_of (AfterMark node.Method) = before_method
 place_of AfterResult = before_method
+place_of AfterMethodName = before_method
 place_of AfterBody = before_method
 place_of InExpression = in_body
+place_of AtEnd = in_body
 place_of _ = before_body
 
 -- How much is in hand: features, parameters, names that are sent, assignments, and the slots that nodes of an expression took,

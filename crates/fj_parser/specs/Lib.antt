@@ -1,9 +1,14 @@
 pub mod Accepting
 pub mod Answers
 pub mod Counting
+pub mod Ending
+pub mod GoalViews
+pub mod Goals
+pub mod Languages
 pub mod Laws
 pub mod Machine
 pub mod MachineViews
-pub mod Reading
 pub mod Readers
+pub mod Reading
 pub mod Waiting
+pub mod Wanted

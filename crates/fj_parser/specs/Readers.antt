@@ -1,5 +1,5 @@
 -- A reader takes one token at a time: how it goes on, and the roles that it gives.
-use Rattle.std.specs.Prelude.{◌≡◌, ◌&&◌, if◌then◌else◌, Bool, List, [], ◌∷◌, ◌++◌, Option, Some, None}
+use Rattle.std.specs.Prelude.{◌≡◌, suc, ◌+◌, length, ◌&&◌, if◌then◌else◌, Bool, List, [], ◌∷◌, ◌++◌, Option, Some, None}
 use Rattle.cfj_model.specs.declared.fault.FaultKind.{FaultKind}
 use Rattle.cfj_model.specs.declared.fault.FaultKind.TheVariants as fault
 use Rattle.cfj_model.specs.Tokens.{Token, is_reserved_word}
@@ -36,6 +36,11 @@ pub record IsReached (m : Reader) (s : m.State) : Type 0 where
   pub tokens : List Token
   pub roles : List Role
   pub ran : run_of m tokens m.start ≡ (Some s, roles)
+
+-- Before the first token none waits, and each token that is read is settled or waits.
+pub record SettlesEach (m : Reader) : Type 0 where
+  pub first : m.pending m.start ≡ []
+  pub each : (ts : List Token) (s n : m.State) (rs : List Role) (t : Token) → run_of m ts m.start ≡ (Some s, rs) → m.step s t ≡ Some n → length (m.emitted s t) + length (m.pending n) ≡ suc (length (m.pending s))
 
 -- how a token that can't stand here is named
 abbrev pub misplaced_as : Bool → Token → FaultKind

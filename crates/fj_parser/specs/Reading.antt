@@ -1,7 +1,7 @@
 -- How the parser stands towards the text that it reads.
 use Rattle.std.specs.Prelude.{◌≡◌, ℕ, ◌+◌, List, length, take, slice_get, Some}
 use Rattle.std.specs.Str.{chars}
-use Rattle.cfj_model.specs.Faults.{Language, StandsBehind}
+use Rattle.cfj_model.specs.Faults.{StandsBehind}
 use Rattle.cfj_model.specs.ProductLines.{ProductLine}
 use Rattle.cfj_model.specs.Roles.{Role, Tally, tallied, AreWithin}
 use Rattle.cfj_model.specs.Tokens.{Token, Takes, place_of}
@@ -13,15 +13,15 @@ use Rattle.fj_lexer.specs.declared.token.LexFault.{LexFault}
 use Rattle.fj_lexer.specs.declared.token.LexFault.TheVariants.{BadChar, OpenComment}
 use Rattle.fj_parser.specs.Readers.{Reader, run_of}
 
--- The tokens before the rest of a text are read: by the reader, and by the tally, which found nothing that breaks among the roles
--- that are settled.
-pub record IsReading {V : Type 0} (l : Language V) (m : Reader) (text rest : List ℕ) (s : m.State) (t : Tally) : Type 0 where
+-- The tokens before the rest of a text are read: by the reader, and by the tally behind what was met, which found nothing that
+-- breaks among the roles that are settled.
+pub record IsReading (met : Tally) (m : Reader) (text rest : List ℕ) (s : m.State) (t : Tally) : Type 0 where
   pub tokens : List Token
   pub roles : List Role
   pub taken : Takes (chars text) tokens (chars rest)
   pub ran : run_of m tokens m.start ≡ (Some s, roles)
-  pub within : AreWithin l.met roles
-  pub counts : t ≡ tallied l.met roles
+  pub within : AreWithin met roles
+  pub counts : t ≡ tallied met roles
 
 -- Behind these tokens another one stands, at this place.
 pub record IsStanding (text : List ℕ) (before : List Token) (at : ℕ) : Type 0 where
@@ -30,8 +30,8 @@ pub record IsStanding (text : List ℕ) (before : List Token) (at : ℕ) : Type 
   pub is : at ≡ place_of text from
 
 -- And the tokens whose roles wait, which stand behind those whose roles are settled, stand at these places.
-pub record IsPlaced {V : Type 0} (l : Language V) (m : Reader) (text rest : List ℕ) (s : m.State) (t : Tally) (places : List ℕ) : Type 0 where
-  pub reading : IsReading l m text rest s t
+pub record IsPlaced (met : Tally) (m : Reader) (text rest : List ℕ) (s : m.State) (t : Tally) (places : List ℕ) : Type 0 where
+  pub reading : IsReading met m text rest s t
   pub each : length places ≡ length (m.pending s)
   pub stand : (i at : ℕ) → slice_get places i ≡ Some at → IsStanding text (take (length reading.roles + i) reading.tokens) at
 

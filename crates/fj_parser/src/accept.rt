@@ -1,14 +1,17 @@
 ghost use Rattle.std.specs.Prelude.{◌≡◌, [], ◌∷◌, true, false, None, IfOk, is_some};
 ghost use Rattle.expression_reader.specs.Machine.{settled};
 ghost use Rattle.fj_parser.specs.Accepting.{AreCounted, Outcome, OwnOutcome};
-ghost use Rattle.fj_parser.specs.Machine.{pending, reader, role, step, waits};
+ghost use Rattle.fj_parser.specs.Machine.{pending, role, waits};
 ghost use Rattle.fj_parser.specs.MachineViews.{machine_seen, IsRoomy};
-ghost use Rattle.fj_parser.specs.Readers.{misplaced_as, IsReached};
+ghost use Rattle.fj_parser.specs.GoalViews.{reader_of};
+ghost use Rattle.fj_parser.specs.Goals.{step_for};
+ghost use Rattle.fj_parser.specs.Readers.{misplaced_as, IsReached, SettlesEach};
 ghost use Rattle.fj_parser.specs.Waiting.{waiting_places, waiting_roles, WaitedWithin};
 ghost use Rattle.fj_tally.specs.Views.{tally_seen};
 ghost use Rattle.fj_symbols.specs.Views.{is_read, symbol_seen};
 
 use crate::machine::Machine;
+use crate::part::Part;
 use crate::settle::settle;
 use crate::waiting::{Refusal, Waiting};
 use cfj_model::FaultKind;
@@ -30,23 +33,25 @@ fn misplaced(takes_name: bool, symbol: Symbol<'_>) -> FaultKind
 /// Whether the machine can go on by this token; what it steps to is of no more use.
 fn goes<'a>(
     alloc: Global,
+    part: Part<'a>,
     machine: &mut Machine<'a>,
     symbol: Symbol<'a>,
 ) -> Result<bool, AllocError>
     requires read { is_read (symbol_seen symbol) ≡ true }
     requires waited { WaitedWithin (machine_seen machine.old) (symbol_seen symbol) }
     requires room { IsRoomy (machine_seen machine.old) }
-    ensures { IfOk result (λ goes. goes ≡ is_some (step (machine_seen machine.old) (symbol_seen symbol.entry))) }
+    ensures { IfOk result (λ goes. goes ≡ is_some (step_for part.entry.goal machine.old.mode (machine_seen machine.old) (symbol_seen symbol.entry))) }
 {
     match symbol {
-        Symbol::Id(name) => Ok(machine.takes(name)),
-        _ => machine.step(alloc, symbol),
+        Symbol::Id(name) => Ok(part.goal.takes(machine, name)),
+        _ => part.goal.step(alloc, machine, symbol),
     }
 }
 
 /// Goes on by a token that doesn't wait, and counts it; its fault, if it has one.
 fn take_settled<'a>(
     alloc: Global,
+    part: Part<'a>,
     machine: &mut Machine<'a>,
     tally: &mut Tally<'a>,
     symbol: Symbol<'a>,
@@ -55,19 +60,19 @@ fn take_settled<'a>(
     requires settled { waits (machine_seen machine.old) (symbol_seen symbol) ≡ false }
     requires waited { WaitedWithin (machine_seen machine.old) (symbol_seen symbol) }
     requires room { IsRoomy (machine_seen machine.old) }
-    ensures { IfOk result (OwnOutcome reader (machine_seen machine.old) (tally_seen tally.old)
+    ensures { IfOk result (OwnOutcome (reader_of part.entry) (machine_seen machine.old) (tally_seen tally.old)
         (role (machine_seen machine.old) (symbol_seen symbol.entry)) (symbol_seen symbol.entry) (machine_seen machine.new) (tally_seen tally.new)) }
 {
     let role = machine.role(symbol);
-    let takes_name = machine.takes_name();
+    let takes_name = part.goal.takes_name(machine);
     if let Some(broken) = tally.broken_by(alloc, role)? {
         // First of all it has to be a token that can stand here.
-        if goes(alloc, machine, symbol)? {
+        if goes(alloc, part, machine, symbol)? {
             return Ok(Some(broken));
         }
         return Ok(Some(misplaced(takes_name, symbol)));
     }
-    if !machine.step(alloc, symbol)? {
+    if !part.goal.step(alloc, machine, symbol)? {
         return Ok(Some(misplaced(takes_name, symbol)));
     }
     tally.count(role)?;
@@ -77,6 +82,7 @@ fn take_settled<'a>(
 /// Takes one token in, with what waited for it; the first fault, if there is one.
 pub fn accept<'a>(
     alloc: Global,
+    part: Part<'a>,
     machine: &mut Machine<'a>,
     tally: &mut Tally<'a>,
     waiting: &mut Waiting<'a>,
@@ -85,9 +91,10 @@ pub fn accept<'a>(
 ) -> Result<Option<Refusal>, AllocError>
     requires read { is_read (symbol_seen symbol) ≡ true }
     requires waiting { waiting_roles waiting.old ≡ pending (machine_seen machine.old) }
-    requires reached { IsReached reader (machine_seen machine.old) }
+    requires settles { SettlesEach (reader_of part) }
+    requires reached { IsReached (reader_of part) (machine_seen machine.old) }
     requires room { IsRoomy (machine_seen machine.old) }
-    ensures { IfOk result (Outcome reader (machine_seen machine.old) (tally_seen tally.old) (waiting_places waiting.old)
+    ensures { IfOk result (Outcome (reader_of part.entry) (machine_seen machine.old) (tally_seen tally.old) (waiting_places waiting.old)
         (symbol_seen symbol.entry) at (machine_seen machine.new) (tally_seen tally.new) waiting.new) }
 {
     // What waited stands before this token.
@@ -99,11 +106,11 @@ pub fn accept<'a>(
     if machine.waits(symbol) {
         // No token waits but one that can stand here.
         let role = machine.role(symbol);
-        machine.step(alloc, symbol)?;
+        part.goal.step(alloc, machine, symbol)?;
         *waiting = left.with(role, at);
         return Ok(None);
     }
-    if let Some(kind) = take_settled(alloc, machine, tally, symbol)? {
+    if let Some(kind) = take_settled(alloc, part, machine, tally, symbol)? {
         return Ok(Some(Refusal { at, kind }));
     }
     *waiting = Waiting::Nothing;

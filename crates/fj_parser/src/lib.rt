@@ -7,16 +7,27 @@
 
 mod accept;
 mod assigns;
+mod class_text;
+mod constructor_text;
 mod ctors;
+mod expr_text;
+mod goal;
 mod heads;
 mod machine;
 mod members;
 mod methods;
 mod mode;
+mod model_text;
+mod name_text;
+mod only;
 mod params;
 mod parser;
+mod part;
+mod passage;
+mod reading;
 mod role;
 mod settle;
 mod waiting;
+mod want;
 
 pub use parser::parse_project;

@@ -1,4 +1,4 @@
-ghost use Rattle.std.specs.Prelude.{◌≡◌, ◌^◌, ◌<◌, true, IfOk, is_some, length};
+ghost use Rattle.std.specs.Prelude.{◌≡◌, ◌^◌, ◌<◌, true, IfOk, is_some, [], length};
 ghost use Rattle.cfj_model.specs.Names.{is_name};
 ghost use Rattle.cfj_model.specs.Tokens.{Id};
 ghost use Rattle.fj_parser.specs.Machine as spec;
@@ -71,14 +71,27 @@ impl<'a> Machine<'a> {
     pub fn new(alloc: Global) -> Machine<'a>
         ensures { machine_seen result ≡ spec.start }
     {
+        Machine::beginning(alloc, Mode::Begin, Features::new(alloc), NO_NAME)
+    }
+
+    /// In this mode, behind these features and within the class of this name; no memory is taken.
+    pub fn beginning(
+        alloc: Global,
+        mode: Mode,
+        features: Features<'a>,
+        name: &'a str,
+    ) -> Machine<'a>
+        requires { is_name name.now ≡ true }
+        ensures { machine_seen result ≡ record (spec.behind features.entry [] []) { mode = mode; name = name.entry.now } }
+    {
         Machine {
-            mode: Mode::Begin,
-            features: Features::new(alloc),
+            mode,
+            features,
             constraints: Vec::new(alloc),
             formula: FormulaReader::new(alloc),
             classes: Vec::new(alloc),
             class_colors: Colors::empty(),
-            name: NO_NAME,
+            name,
             parent: NO_NAME,
             fields: Vec::new(alloc),
             params: Vec::new(alloc),

@@ -1,5 +1,6 @@
 ghost use Rattle.std.specs.Prelude.{◌≡◌, ◌∷◌, [], ◌++◌, true, IfOk, OnOk};
 ghost use Rattle.cfj_model.specs.Tokens.{OpenParen};
+ghost use Rattle.fj_parser.specs.Goals.{with_single_field};
 ghost use Rattle.fj_parser.specs.Machine as spec;
 ghost use Rattle.fj_parser.specs.MachineViews.{machine_seen, GoesIn};
 ghost use Rattle.fj_symbols.specs.Views.{symbol_seen, is_name_token};
@@ -122,6 +123,26 @@ impl<'a> Machine<'a> {
         self.of = NO_NAME;
         self.last = NO_NAME;
         self.mode = Mode::InMembers;
+        Ok(())
+    }
+
+    /// The member in hand is a field, and no other member is read.
+    pub(crate) fn close_single_field(&mut self, alloc: Global) -> Result<(), AllocError>
+        ensures { OnOk result (machine_seen self.new ≡ with_single_field (machine_seen self.old)) }
+    {
+        let of = name_of(alloc, self.result_type)?;
+        let name = name_of(alloc, self.method)?;
+        self.fields.clear();
+        self.fields.push(Field {
+            alt: 0,
+            colors: self.method_colors,
+            of,
+            name,
+        })?;
+        self.method_colors = Colors::empty();
+        self.result_type = NO_NAME;
+        self.method = NO_NAME;
+        self.mode = Mode::InMethods;
         Ok(())
     }
 

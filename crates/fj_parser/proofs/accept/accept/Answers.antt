@@ -1,21 +1,21 @@
 use Rattle.std.proofs.Common.{◌≡◌, Some, None, true, false, [], ◌∷◌, ◌++◌, ◌∙◌, ap, sym, subst}
 use Rattle.expression_reader.specs.Machine as expression
 use Rattle.fj_symbols.specs.Views.{is_identifier_role, role_seen, symbol_seen}
-use Rattle.fj_parser.specs.Machine.{pending, role, settles, step, waits}
+use Rattle.fj_parser.specs.Machine.{pending, role, settles, waits}
 use Rattle.fj_parser.specs.MachineViews.{machine_seen}
 use Rattle.fj_parser.specs.Waiting.{may_wait, waiting_left, waiting_roles, waiting_places}
 use Rattle.fj_tally.specs.Views.{tally_seen}
 use Rattle.fj_parser.specs.Accepting.{OwnOutcome}
-use Rattle.fj_parser.specs.Machine.{reader}
-use Rattle.fj_parser.proofs.Accepted.{gone, left_roles, settled_taken, settled_told, waited, waited_told, waited_within, waiting_taken, Waited}
-use Rattle.fj_parser.proofs.Behind.{left_shape, waits_goes, IsOnce}
-use Rattle.fj_parser.proofs.Law.{laws}
+use Rattle.fj_parser.specs.GoalViews.{reader_of}
+use Rattle.fj_parser.proofs.Accepted.{step_of, gone, left_roles, settled_taken, settled_told, waited, waited_told, waited_within, waiting_taken, Waited}
+use Rattle.fj_parser.proofs.Behind.{left_shape, IsOnce}
+use Rattle.fj_parser.proofs.GoalBehind.{waits_goes_for}
 use Rattle.fj_parser.proofs.Named.{role_named, waiting_fits}
 use Rattle.fj_parser.proofs.accept.accept.Goals as goal
 
 pub returns-in-Some : goal.returns-in-Some
 returns-in-Some c =
-    waited_told (machine_seen c.args.machine.now) (tally_seen c.args.tally.now) c.args.waiting.now (symbol_seen c.args.symbol) c.args.at (tally_seen c.settle.new.tally) c.settles-settling.result c.in_ok-refusal.field-0 c.in-Some.refusal c.settles-settling.ensures c.in-Some.is c.requires.waiting c.in_ok-refusal.ensures
+    waited_told c.args.part (machine_seen c.args.machine.now) (tally_seen c.args.tally.now) c.args.waiting.now (symbol_seen c.args.symbol) c.args.at (tally_seen c.settle.new.tally) c.settles-settling.result c.in_ok-refusal.field-0 c.in-Some.refusal c.settles-settling.ensures c.in-Some.is c.requires.waiting c.in_ok-refusal.ensures
 
 pub step-requires-clause-named : goal.step-requires-clause-named
 step-requires-clause-named c =
@@ -43,17 +43,17 @@ with-requires-clause-named c =
 pub returns-then-waits : goal.returns-then-waits
 returns-then-waits c =
     let s = machine_seen c.args.machine.now in
-    let n = machine_seen c.step.new.self in
+    let n = machine_seen c.step.new.machine in
     let t = tally_seen c.args.tally.now in
     let u = tally_seen c.settle.new.tally in
     let w = c.args.waiting.now in
     let token = symbol_seen c.args.symbol in
     let h : Waited s t token u = waited s t w token u c.settles-settling.result c.in_ok-refusal.field-0 c.settles-settling.ensures c.in_default.is c.requires.waiting c.in_ok-refusal.ensures in
     let own : waits s token ≡ true = sym c.waits.ensures ∙ c.if-waits.true in
-    let goes : step s token ≡ Some n = gone c.in_ok-step.field-0 s n token (waits_goes s token own) c.in_ok-step.ensures in
-    let once : IsOnce s n token = laws.each c.requires.reached.tokens s n c.requires.reached.roles token c.requires.reached.ran goes in
+    let goes : step_of c.args.part s token ≡ Some n = gone c.args.part c.in_ok-step.field-0 s n token (waits_goes_for c.args.part.goal s token own) c.in_ok-step.ensures in
+    let once : IsOnce s n token = c.requires.settles.each c.requires.reached.tokens s n c.requires.reached.roles token c.requires.reached.ran goes in
     let left : c.left-left.result ≡ waiting_left (settles s token) w = c.left-left.ensures ∙ ap (λ k. waiting_left k w) c.settles-settling.ensures in
-    waiting_taken s n t u w c.with.result token c.args.at c.requires.waiting own goes once h
+    waiting_taken c.args.part s n t u w c.with.result token c.args.at c.requires.waiting own goes once h
     (c.with.ensures.roles ∙ ap (λ x. waiting_roles x ++ role_seen c.role-role.result ∷ []) left ∙ ap (λ r. waiting_roles (waiting_left (settles s token) w) ++ r ∷ []) c.role-role.ensures)
     (c.with.ensures.places ∙ ap (λ x. waiting_places x ++ c.args.at ∷ []) left)
 
@@ -66,8 +66,8 @@ returns-in-Some-2 c =
     let token = symbol_seen c.args.symbol in
     let h : Waited s t token u = waited s t w token u c.settles-settling.result c.in_ok-refusal.field-0 c.settles-settling.ensures c.in_default.is c.requires.waiting c.in_ok-refusal.ensures in
     let own : waits s token ≡ false = sym c.waits.ensures ∙ c.if-waits.false in
-    settled_told s t u w token c.args.at c.in-Some-2.kind c.requires.waiting own h
-    (subst (OwnOutcome reader s u (role s token) token (machine_seen c.take_settled.new.machine) (tally_seen c.take_settled.new.tally)) c.in-Some-2.is c.in_ok-kind.ensures)
+    settled_told c.args.part s t u w token c.args.at c.in-Some-2.kind c.requires.waiting own h
+    (subst (OwnOutcome (reader_of c.args.part) s u (role s token) token (machine_seen c.take_settled.new.machine) (tally_seen c.take_settled.new.tally)) c.in-Some-2.is c.in_ok-kind.ensures)
 
 pub returns : goal.returns
 returns c =
@@ -80,6 +80,6 @@ returns c =
     let token = symbol_seen c.args.symbol in
     let h : Waited s t token u = waited s t w token u c.settles-settling.result c.in_ok-refusal.field-0 c.settles-settling.ensures c.in_default.is c.requires.waiting c.in_ok-refusal.ensures in
     let own : waits s token ≡ false = sym c.waits.ensures ∙ c.if-waits.false in
-    let taken : OwnOutcome reader s u (role s token) token n v None = subst (OwnOutcome reader s u (role s token) token n v) c.in_default-2.is c.in_ok-kind.ensures in
-    let once : IsOnce s n token = laws.each c.requires.reached.tokens s n c.requires.reached.roles token c.requires.reached.ran taken.goes in
-    settled_taken s n t u v w token c.args.at c.requires.waiting own once h taken
+    let taken : OwnOutcome (reader_of c.args.part) s u (role s token) token n v None = subst (OwnOutcome (reader_of c.args.part) s u (role s token) token n v) c.in_default-2.is c.in_ok-kind.ensures in
+    let once : IsOnce s n token = c.requires.settles.each c.requires.reached.tokens s n c.requires.reached.roles token c.requires.reached.ran taken.goes in
+    settled_taken c.args.part s n t u v w token c.args.at c.requires.waiting own once h taken

@@ -3,7 +3,7 @@ use Rattle.fj_parser.specs.Accepting.{AreCounted, of_waiting}
 use Rattle.fj_parser.specs.Waiting.{waiting_places, waiting_roles}
 use Rattle.fj_tally.specs.Views.{tally_seen}
 use Rattle.fj_parser.proofs.TokenReads.{lexical_told}
-use Rattle.fj_parser.proofs.parser.first_fault.Goals as goal
+use Rattle.fj_parser.proofs.reading.first_fault.Goals as goal
 
 pub returns-in-Some : goal.returns-in-Some
 returns-in-Some c =

@@ -1,16 +1,16 @@
 use Rattle.std.proofs.Common.{◌≡◌, length}
-use Rattle.cfj_model.specs.Faults.{projects}
 use Rattle.fj_parser.specs.Counting.{Counted}
-use Rattle.fj_parser.specs.Machine.{pending, reader}
+use Rattle.fj_parser.specs.Machine.{pending}
+use Rattle.fj_parser.specs.GoalViews.{met_of, reader_of}
 use Rattle.fj_parser.specs.MachineViews.{machine_seen}
 use Rattle.fj_parser.specs.Reading.{IsPlaced}
 use Rattle.fj_parser.specs.Waiting.{waiting_places, waiting_roles}
 use Rattle.fj_tally.specs.Views.{tally_seen}
-use Rattle.fj_parser.proofs.parser.read_tokens.Given as goal
+use Rattle.fj_parser.proofs.reading.read_tokens.Given as goal
 
 abbrev pub invariant-tokens : goal.invariant-tokens
 invariant-tokens l = record {
-  placed : IsPlaced projects reader l.fn.lexer.text.now l.lexer.rest.now (machine_seen l.machine) (tally_seen l.tally) (waiting_places l.waiting);
+  placed : IsPlaced (met_of l.fn.part) (reader_of l.fn.part) l.fn.lexer.text.now l.lexer.rest.now (machine_seen l.machine) (tally_seen l.tally) (waiting_places l.waiting);
   waits : waiting_roles l.waiting ≡ pending (machine_seen l.machine);
   counted : Counted (machine_seen l.machine) (tally_seen l.tally);
   whole : l.lexer.text.now ≡ l.fn.lexer.text.now;

@@ -1,0 +1,175 @@
+-- The laws of the machine for a single class: it reads the texts of classes and no others, and each state can be completed.
+use Rattle.std.proofs.Common.{◌≡◌, ℕ, suc, true, false, List, [], ◌∷◌, ◌++◌, length, Some, None, refl, sym, ◌∙◌, ap, subst, arith}
+use Rattle.std.proofs.lemmas.Option.{same_Some}
+use Rattle.cfj_model.specs.declared.class.Class.{Class}
+use Rattle.cfj_model.specs.Faults.{single_classes}
+use Rattle.cfj_model.specs.Grammar.{ClassTree, spell_class, value_class}
+use Rattle.cfj_model.specs.Marks.{in_order, spell_marks}
+use Rattle.cfj_model.specs.Roles.{Role, plain}
+use Rattle.cfj_model.specs.Tokens.{Token, Id, ClassWord, End}
+use Rattle.cfj_model.specs.TreeRoles.{roles_class}
+use Rattle.fj_symbols.specs.Views.{are_read}
+use Rattle.fj_parser.specs.Laws.{Closes, GoesByName, Reads}
+use Rattle.fj_parser.specs.declared.goal.Goal.TheVariants as goal
+use Rattle.fj_parser.specs.declared.mode.Mode.{Mode}
+use Rattle.fj_parser.specs.declared.mode.Mode.TheVariants.{BetweenClasses, AtEnd}
+use Rattle.fj_parser.specs.Goals.{class_or_end, step_for, takes_name_for, reader_for}
+use Rattle.fj_parser.specs.Machine.{unnamed, State, behind, class_of, start, pending, emitted}
+use Rattle.fj_parser.specs.Readers.{Run, with_roles, run_of}
+use Rattle.fj_parser.proofs.ClassClosing.{ClassEnding, class_ending}
+use Rattle.fj_parser.proofs.ClassRuns.{class_reader, narrow_in, narrow_run, stage_reached, behind_class, class_runs}
+use Rattle.fj_parser.proofs.Closing.{Reaches}
+use Rattle.fj_parser.proofs.Law.{end_ends, run_settles}
+use Rattle.fj_parser.proofs.ListsSound.{is_whole_in, is_whole}
+use Rattle.fj_parser.proofs.Naming.{Kept, kept_run, name_goes, name_stops}
+use Rattle.fj_parser.proofs.Parts.{same_but_last}
+use Rattle.fj_parser.proofs.Readers.{on_from, run_append, run_more}
+use Rattle.fj_parser.proofs.Sound.{Tail, no_end, an_end, Classes, classes_read}
+use Rattle.fj_parser.proofs.Spelled.{class_grammar_is_plain}
+use Rattle.fj_parser.proofs.Standing.{Stands, stands_run, waiting_settled, each_once}
+
+-- ---- the text of each class is read
+
+-- behind a class and the end
+abbrev pub class_ended : List (List ℕ) → ClassTree → State
+class_ended features k = record (behind_class features k) { mode = AtEnd }
+
+end_run : (features : List (List ℕ)) (k : ClassTree) → run_of (class_reader features) (End ∷ []) (behind_class features k) ≡ (Some (class_ended features k), plain ∷ [])
+unfolding run_of
+end_run features k = refl
+
+class_text_runs : (features : List (List ℕ)) (k : ClassTree) → run_of (class_reader features) (spell_class k (End ∷ [])) (behind features [] []) ≡ (Some (class_ended features k), roles_class k (plain ∷ []))
+class_text_runs features k =
+    class_runs features k (End ∷ [])
+    ∙ ap (with_roles (roles_class k [])) (end_run features k)
+    ∙ ap (λ (q : List Role). (Some (class_ended features k), q)) (sym ((class_grammar_is_plain features).gives k [] (plain ∷ [])))
+
+-- the class that a state stands for, once it is whole
+abbrev pub first_class : List Class → Class
+first_class [] = class_of start
+first_class (k ∷ ks) = k
+
+-- ---- what is read to the end is a class
+
+-- a second class doesn't begin
+no_second : (features : List (List ℕ)) (k : ClassTree) (ms : List (List ℕ)) (ts : List Token) → (run_of (class_reader features) (spell_marks ms (ClassWord ∷ ts)) (behind_class features k)).0 ≡ None
+unfolding run_of
+no_second features k [] ts = refl
+no_second features k (m ∷ ms) ts = refl
+
+no_text : (features : List (List ℕ)) → (run_of (class_reader features) (End ∷ []) (behind features [] [])).0 ≡ None
+unfolding run_of
+no_text features = refl
+
+-- nothing was read
+still_there : (features : List (List ℕ)) (s : State) → (run_of (class_reader features) [] s).0 ≡ Some s
+unfolding run_of
+still_there features s = refl
+
+-- tokens that lead to the end
+closed_text : (features : List (List ℕ)) (ts : List Token) → Reaches AtEnd (run_of (class_reader features) ts (behind features [] [])).0 → (k : ClassTree) × (ts ≡ spell_class k (End ∷ []))
+closed_text features ts h = by (run_of (class_reader features) ts (behind features [] [])) refl h
+  where
+    of_classes : (ks : List ClassTree) (rest : List Token) → Tail rest → ts ≡ in_order spell_class ks rest → (k : ClassTree) × (ts ≡ spell_class k (End ∷ []))
+    of_classes [] _ no_end is =
+        let at_end : BetweenClasses ≡ AtEnd = subst (Reaches AtEnd) (ap (λ w. (run_of (class_reader features) w (behind features [] [])).0) is ∙ still_there features (behind features [] [])) h in
+        absurd (let no : ⊥ = cc at_end in no)
+    of_classes [] _ an_end is = absurd (subst (Reaches AtEnd) (ap (λ w. (run_of (class_reader features) w (behind features [] [])).0) is ∙ no_text features) h)
+    of_classes (k ∷ []) _ no_end is =
+        let at_end : BetweenClasses ≡ AtEnd = subst (Reaches AtEnd) (ap (λ w. (run_of (class_reader features) w (behind features [] [])).0) is ∙ ap (λ (p : Run State). p.0) (class_runs features k []) ∙ still_there features (behind_class features k)) h in
+        absurd (let no : ⊥ = cc at_end in no)
+    of_classes (k ∷ []) _ an_end is = (k, is)
+    of_classes (k ∷ (j ∷ ks)) rest tail is = absurd (subst (Reaches AtEnd) (ap (λ w. (run_of (class_reader features) w (behind features [] [])).0) is ∙ ap (λ (p : Run State). p.0) (class_runs features k (in_order spell_class (j ∷ ks) rest)) ∙ no_second features k j.marks _) h)
+
+    by : (p : Run State) → run_of (class_reader features) ts (behind features [] []) ≡ p → Reaches AtEnd p.0 → (k : ClassTree) × (ts ≡ spell_class k (End ∷ []))
+    by (None, rs) ran r = absurd r
+    by (Some n, rs) ran r =
+        let c : Classes ts = classes_read (suc (length ts)) ts (omega arith) features [] [] (ap (λ (p : Run State). is_whole p.0) (narrow_run features ts (behind features [] []) n rs ran) ∙ ap is_whole_in r) in
+        of_classes c.classes c.rest c.tail c.spelled
+
+-- where the end may follow, the tokens so far are a class
+sound : (features : List (List ℕ)) (ts : List Token) (s n : State) (rs : List Role) → run_of (class_reader features) ts (behind features [] []) ≡ (Some s, rs) → step_for goal.Class s.mode s End ≡ Some n → (k : ClassTree) × (ts ≡ spell_class k [])
+sound features ts s n rs ran ends =
+    let more : run_of (class_reader features) (ts ++ End ∷ []) (behind features [] []) ≡ (Some n, rs ++ emitted s End) = run_more (class_reader features) ts End s n rs ran ends in
+    let at_end : n.mode ≡ AtEnd = end_ends s.mode s n (narrow_in s.mode s n End ends) in
+    let whole = closed_text features (ts ++ End ∷ []) (subst (λ (p : Run State). Reaches AtEnd p.0) (sym more) at_end) in
+    (whole.0, same_but_last ts (spell_class whole.0 []) End End (whole.1 ∙ (class_grammar_is_plain features).spells whole.0 [] (End ∷ [])))
+
+-- ---- what is read begins a class
+
+-- what is known of each state that is reached
+reached : (features : List (List ℕ)) (ts : List Token) (s : State) (rs : List Role) → run_of (class_reader features) ts (behind features [] []) ≡ (Some s, rs) → Stands s rs
+reached features ts s rs ran = stands_run ts (behind features [] []) s [] rs (record { formula_goes = refl; holds = record { settled = refl; none = refl } }) (narrow_run features ts (behind features [] []) s rs ran)
+
+closes : (features : List (List ℕ)) (ts : List Token) (s : State) (rs : List Role) → run_of (class_reader features) ts (behind features [] []) ≡ (Some s, rs) → Closes (single_classes features) ts rs (pending s)
+closes features ts s rs ran =
+    let e : ClassEnding features s = class_ending features s rs (stage_reached features ts s rs ran) (reached features ts s rs ran).holds in
+    let all : run_of (class_reader features) (ts ++ e.more) (behind features [] []) ≡ ((run_of (class_reader features) e.more s).0, rs ++ (run_of (class_reader features) e.more s).1) = run_append (class_reader features) ts e.more (behind features [] []) ∙ ap (on_from (class_reader features) e.more) ran in
+    let t = closed_text features (ts ++ e.more) (subst (λ (p : Run State). Reaches AtEnd p.0) (sym all) e.reaches) in
+    record {
+      tree = t.0;
+      more = e.more;
+      others = e.others;
+      text = t.1;
+      in_roles = ap (λ (p : Run State). p.1) (sym (class_text_runs features t.0) ∙ ap (λ w. run_of (class_reader features) w (behind features [] [])) (sym t.1) ∙ all) ∙ ap (λ (q : List Role). rs ++ q) e.begins;
+    }
+
+-- ---- names
+
+-- where some identifier could stand, one can
+class_named : (features : List (List ℕ)) (ts : List Token) (s : State) (rs : List Role) → run_of (class_reader features) ts (behind features [] []) ≡ (Some s, rs) → are_read ts ≡ true → takes_name_for goal.Class s.mode s ≡ true → GoesByName (class_reader features) s
+class_named features ts s rs ran read takes = by s.mode refl takes
+  where
+    by : (m : Mode) → s.mode ≡ m → takes_name_for goal.Class m s ≡ true → GoesByName (class_reader features) s
+    by BetweenClasses here takes = absurd (let no : ⊥ = cc takes in no)
+    by m here takes =
+        let n = name_goes m s (subst (λ x. Kept x s) here (kept_run ts (behind features [] []) s tt read (ap (λ (p : Run State). p.0) (narrow_run features ts (behind features [] []) s rs ran)))) takes in
+        record { name = n.name; next = n.next; is = n.is; goes = ap (λ x. step_for goal.Class x s (Id n.name)) here ∙ n.goes }
+
+-- and elsewhere none can
+class_unnamed : (m : Mode) (s : State) (w : List ℕ) → takes_name_for goal.Class m s ≡ false → step_for goal.Class m s (Id w) ≡ None
+class_unnamed BetweenClasses s w e = by s.classes
+  where
+    by : (cs : List Class) → class_or_end cs s (Id w) ≡ None
+    by [] = refl
+    by (k ∷ ks) = refl
+class_unnamed m s w e = name_stops m s w e
+
+-- ---- all laws together
+
+-- the machine for a single class reads the texts of classes
+pub class_laws : (features : List (List ℕ)) → Reads (single_classes features) (reader_for goal.Class features unnamed)
+class_laws features =
+    record {
+      grammar = class_grammar_is_plain features;
+      ended = class_ended features;
+      stands_for = λ s. first_class s.classes;
+      valued = λ k. refl;
+      complete = class_text_runs features;
+      sound = sound features;
+      closes = closes features;
+      first = refl;
+      last = λ k. refl;
+      each = λ ts s n rs t ran goes. each_once s n t rs (reached features ts s rs ran) (narrow_in s.mode s n t goes);
+      settles = λ ts s k rs ran. run_settles ts s (class_ended features k) rs refl (narrow_run features ts s (class_ended features k) rs ran);
+      settled = λ ts s rs ran. waiting_settled s.mode s rs (reached features ts s rs ran).holds;
+      named = class_named features;
+      unnamed = λ s w free. class_unnamed s.mode s w free;
+    }
+
+-- ---- for what reads classes
+
+-- a whole text was read to the state behind a class
+whole_ends : (features : List (List ℕ)) (ts : List Token) (s n : State) (rs : List Role) → run_of (class_reader features) ts (behind features [] []) ≡ (Some s, rs) → step_for goal.Class s.mode s End ≡ Some n → (k : ClassTree) × (n ≡ class_ended features k)
+whole_ends features ts s n rs ran ends =
+    let more : run_of (class_reader features) (ts ++ End ∷ []) (behind features [] []) ≡ (Some n, rs ++ emitted s End) = run_more (class_reader features) ts End s n rs ran ends in
+    let x = sound features ts s n rs ran ends in
+    let text : spell_class x.0 (End ∷ []) ≡ ts ++ End ∷ [] = (class_grammar_is_plain features).spells x.0 [] (End ∷ []) ∙ ap (λ w. w ++ End ∷ []) (sym x.1) in
+    (x.0, same_Some n (class_ended features x.0) (ap (λ (p : Run State). p.0) (sym more ∙ ap (λ w. run_of (class_reader features) w (behind features [] [])) (sym text) ∙ class_text_runs features x.0)))
+
+-- behind the end of a text one class was read, and the state stands for it
+pub class_stands : (features : List (List ℕ)) (ts : List Token) (s n : State) (rs : List Role) → run_of (class_reader features) ts (behind features [] []) ≡ (Some s, rs) → step_for goal.Class s.mode s End ≡ Some n → (k : Class) × (n.classes ≡ k ∷ []) × ((class_laws features).stands_for n ≡ k)
+unfolding class_laws
+class_stands features ts s n rs ran ends =
+    let x = whole_ends features ts s n rs ran ends in
+    (value_class features x.0, ap (λ (m : State). m.classes) x.1, ap (λ (m : State). first_class m.classes) x.1)

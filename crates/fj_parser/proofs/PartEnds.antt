@@ -1,0 +1,45 @@
+-- What is in hand behind the end of a part's text.
+use Rattle.std.proofs.Common.{◌≡◌, ℕ, List, [], ◌∷◌}
+use Rattle.cfj_model.specs.declared.class.Class.{Class}
+use Rattle.cfj_model.specs.declared.class.Field.{Field}
+use Rattle.cfj_model.specs.declared.class.Method.{Method}
+use Rattle.fj_parser.specs.Ending.{IsReadTo}
+use Rattle.fj_parser.specs.GoalViews.{met_of, reader_of, IsPart}
+use Rattle.fj_parser.specs.Machine.{State, unnamed}
+use Rattle.fj_parser.specs.declared.goal.Goal.TheVariants as goal
+use Rattle.fj_parser.specs.declared.part.Part.{Part}
+use Rattle.fj_parser.proofs.ClassLaw.{class_laws, class_stands}
+use Rattle.fj_parser.proofs.ExpressionLaw.{expression_laws, expression_stands}
+use Rattle.fj_parser.proofs.FieldLaw.{field_laws, field_stands}
+use Rattle.fj_parser.proofs.MemberLaw.{member_laws, member_stands, IsMember}
+use Rattle.fj_parser.proofs.MethodLaw.{method_laws, method_stands}
+use Rattle.fj_parser.proofs.PartTexts.{read_by_goal}
+
+-- the one item of a list
+pub one_item : {A : Type 0} (xs : List A) (x y : A) → xs ≡ x ∷ [] → xs ≡ y ∷ [] → x ≡ y
+one_item xs x y p q = cc (p, q)
+
+pub one_class : (p : Part) (features : List (List ℕ)) → IsPart p goal.Class features unnamed → (text : List ℕ) (n : State) → IsReadTo (met_of p) (reader_of p) text n → (k : Class) × (n.classes ≡ k ∷ []) × ((class_laws features).stands_for n ≡ k)
+one_class p features is text n r =
+    let h = read_by_goal p goal.Class features unnamed is text n r in
+    class_stands features h.reading.tokens h.s n h.reading.roles h.reading.ran h.accepted.goes
+
+pub one_field : (p : Part) (features : List (List ℕ)) → IsPart p goal.Field features unnamed → (text : List ℕ) (n : State) → IsReadTo (met_of p) (reader_of p) text n → (f : Field) × (n.fields ≡ f ∷ []) × ((field_laws features).stands_for n ≡ f)
+one_field p features is text n r =
+    let h = read_by_goal p goal.Field features unnamed is text n r in
+    field_stands features h.reading.tokens h.s n h.reading.roles h.reading.ran h.accepted.goes
+
+pub one_method : (p : Part) (features : List (List ℕ)) → IsPart p goal.Method features unnamed → (text : List ℕ) (n : State) → IsReadTo (met_of p) (reader_of p) text n → (m : Method) × (n.methods ≡ m ∷ []) × ((method_laws features).stands_for n ≡ m)
+one_method p features is text n r =
+    let h = read_by_goal p goal.Method features unnamed is text n r in
+    method_stands features h.reading.tokens h.s n h.reading.roles h.reading.ran h.accepted.goes
+
+pub one_member : (p : Part) (features : List (List ℕ)) → IsPart p goal.Member features unnamed → (text : List ℕ) (n : State) → IsReadTo (met_of p) (reader_of p) text n → IsMember features n ((member_laws features).stands_for n)
+one_member p features is text n r =
+    let h = read_by_goal p goal.Member features unnamed is text n r in
+    member_stands features h.reading.tokens h.s n h.reading.roles h.reading.ran h.accepted.goes
+
+pub one_body : (p : Part) → IsPart p goal.Expression [] unnamed → (text : List ℕ) (n : State) → IsReadTo (met_of p) (reader_of p) text n → (m : Method) × (n.methods ≡ m ∷ []) × (expression_laws.stands_for n ≡ m.body)
+one_body p is text n r =
+    let h = read_by_goal p goal.Expression [] unnamed is text n r in
+    expression_stands h.reading.tokens h.s n h.reading.roles h.reading.ran h.accepted.goes

@@ -1,0 +1,18 @@
+use Rattle.fj_parser.specs.Languages.{constructors}
+use Rattle.fj_parser.specs.Goals.{reader_for}
+use Rattle.fj_parser.specs.declared.goal.Goal.TheVariants as reads
+use Rattle.fj_parser.proofs.ConstructorLaw.{constructor_laws}
+use Rattle.fj_parser.proofs.Exact.{only_read, only_told}
+use Rattle.fj_parser.proofs.constructor_text.parse_constructor.Goals as goal
+
+pub returns-clause-only : goal.returns-clause-only
+returns-clause-only c =
+    let features = c.args.model.now.features in
+    let class = c.args.class.now in
+    only_read (constructors features class) (reader_for reads.Constructor features class) (constructor_laws features class c.requires.identifier) c.args.text.now c.read_constructor.result c.read_constructor.ensures.read c.read_constructor.ensures.fault
+
+pub returns-clause-first : goal.returns-clause-first
+returns-clause-first c =
+    let features = c.args.model.now.features in
+    let class = c.args.class.now in
+    only_told (constructors features class) (reader_for reads.Constructor features class) (constructor_laws features class c.requires.identifier) c.args.text.now c.read_constructor.result c.read_constructor.ensures.read c.read_constructor.ensures.fault

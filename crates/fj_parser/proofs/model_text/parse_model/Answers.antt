@@ -1,0 +1,16 @@
+use Rattle.std.proofs.Common.{[]}
+use Rattle.fj_parser.specs.Languages.{models}
+use Rattle.fj_parser.specs.Goals.{reader_for}
+use Rattle.fj_parser.specs.Machine.{unnamed}
+use Rattle.fj_parser.specs.declared.goal.Goal.TheVariants as reads
+use Rattle.fj_parser.proofs.ModelLaw.{model_laws}
+use Rattle.fj_parser.proofs.Exact.{only_read, only_told}
+use Rattle.fj_parser.proofs.model_text.parse_model.Goals as goal
+
+pub returns-clause-only : goal.returns-clause-only
+returns-clause-only c =
+    only_read models (reader_for reads.Model [] unnamed) model_laws c.args.text.now c.read_model.result c.read_model.ensures.read c.read_model.ensures.fault
+
+pub returns-clause-first : goal.returns-clause-first
+returns-clause-first c =
+    only_told models (reader_for reads.Model [] unnamed) model_laws c.args.text.now c.read_model.result c.read_model.ensures.read c.read_model.ensures.fault

@@ -1,0 +1,16 @@
+use Rattle.std.proofs.Common.{[]}
+use Rattle.fj_parser.specs.Languages.{names}
+use Rattle.fj_parser.specs.Goals.{reader_for}
+use Rattle.fj_parser.specs.Machine.{unnamed}
+use Rattle.fj_parser.specs.declared.goal.Goal.TheVariants as reads
+use Rattle.fj_parser.proofs.NameLaw.{name_laws}
+use Rattle.fj_parser.proofs.Exact.{only_read, only_told}
+use Rattle.fj_parser.proofs.name_text.parse_name.Goals as goal
+
+pub returns-clause-only : goal.returns-clause-only
+returns-clause-only c =
+    only_read names (reader_for reads.Name [] unnamed) name_laws c.args.text.now c.read_name.result c.read_name.ensures.read c.read_name.ensures.fault
+
+pub returns-clause-first : goal.returns-clause-first
+returns-clause-first c =
+    only_told names (reader_for reads.Name [] unnamed) name_laws c.args.text.now c.read_name.result c.read_name.ensures.read c.read_name.ensures.fault

@@ -1,0 +1,27 @@
+use Rattle.std.proofs.Common.{◌≡◌, [], Err, refl, subst}
+use Rattle.std.proofs.lemmas.Result.{err_from_is_err_and}
+use Rattle.cfj_model.specs.declared.fault.ParseFault.TheVariants.{At}
+use Rattle.cfj_model.specs.Faults.{IsTextOf}
+use Rattle.fj_parser.specs.Languages.{names}
+use Rattle.fj_parser.specs.Machine.{unnamed}
+use Rattle.fj_parser.specs.MachineViews.{machine_seen}
+use Rattle.fj_parser.specs.declared.goal.Goal.TheVariants as reads
+use Rattle.fj_parser.proofs.NameLaw.{name_laws, name_stands}
+use Rattle.fj_parser.proofs.PartTexts.{part_settles, part_text, part_fault}
+use Rattle.fj_parser.proofs.name_text.read_word.Goals as goal
+
+pub read_text-requires : goal.read_text-requires
+read_text-requires c =
+    part_settles c.alone.result reads.Name [] unnamed c.alone.ensures names name_laws
+
+pub returns-in_err-machine-clause-fault : goal.returns-in_err-machine-clause-fault
+returns-in_err-machine-clause-fault c = λ at kind e.
+    let p = err_from_is_err_and c.from_residual.result c.from_residual.ensures.1 in
+    let told : c.read_text.result ≡ Err (At at kind) = cc (p.1, p.2, e, c.in_err-machine.was) in
+    part_fault c.alone.result reads.Name [] unnamed c.alone.ensures names name_laws refl c.args.text.now at kind c.utf8.text (c.read_text.ensures.fault at kind told)
+
+pub returns-clause-read : goal.returns-clause-read
+returns-clause-read c =
+    let n = machine_seen c.in_ok-machine.machine in
+    subst (IsTextOf names c.args.text.now) (name_stands n)
+    (part_text c.alone.result reads.Name [] unnamed c.alone.ensures names name_laws refl c.args.text.now n c.utf8.text c.in_ok-machine.ensures.read)

@@ -1,0 +1,116 @@
+ghost use Rattle.std.specs.Prelude.{◌≡◌, true, nat_le, [], length, IfOk};
+ghost use Rattle.cfj_model.specs.Names.{is_name};
+ghost use Rattle.cfj_model.specs.ProductLines.{are_distinct, most_features};
+
+use crate::goal::Goal;
+use crate::machine::{Machine, NO_NAME};
+use crate::mode::Mode;
+use cfj_model::{FeatureModel, Name};
+use fj_symbols::{Features, Role};
+use fj_tally::Tally;
+use std::alloc::{AllocError, Global};
+
+/// What is to be read by itself: the features that its marks may name, and the class where it is a constructor.
+#[derive(Clone, Copy)]
+pub struct Part<'a> {
+    pub goal: Goal,
+    pub features: &'a [Name],
+    pub class: &'a str,
+    ghost few: { nat_le (length features.now) most_features ≡ true },
+    ghost distinct: { are_distinct features.now ≡ true },
+    ghost class_fits: { is_name class.now ≡ true },
+}
+
+/// The features of a model, as a machine keeps them.
+fn features_of<'a>(alloc: Global, names: &'a [Name]) -> Result<Features<'a>, AllocError>
+    ensures { IfOk result (λ features. features ≡ names.now) }
+{
+    let mut features = Features::new(alloc);
+    'each: for item in names {
+        features.add(alloc, item.text())?;
+    }
+    Ok(features)
+}
+
+impl<'a> Part<'a> {
+    ghost use Rattle.fj_parser.specs.GoalViews.{met_of, IsPart};
+    ghost use Rattle.fj_parser.specs.Goals.{start_for};
+    ghost use Rattle.fj_parser.specs.Machine.{behind, unnamed};
+    ghost use Rattle.fj_parser.specs.MachineViews.{machine_seen};
+    ghost use Rattle.fj_tally.specs.Views.{tally_seen};
+
+    /// What stands without a feature model.
+    pub fn alone(goal: Goal) -> Part<'a>
+        ensures { IsPart result goal [] unnamed }
+    {
+        Part {
+            goal,
+            features: &[],
+            class: NO_NAME,
+        }
+    }
+
+    /// What stands in a project of this model.
+    pub fn under(goal: Goal, model: &'a FeatureModel) -> Part<'a>
+        requires few { nat_le (length model.now.features) most_features ≡ true }
+        requires distinct { are_distinct model.now.features ≡ true }
+        ensures { IsPart result goal model.now.features unnamed }
+    {
+        Part {
+            goal,
+            features: model.features.slice(),
+            class: NO_NAME,
+        }
+    }
+
+    /// The constructor of the class of this name.
+    pub fn constructor(model: &'a FeatureModel, class: &'a Name) -> Part<'a>
+        requires few { nat_le (length model.now.features) most_features ≡ true }
+        requires distinct { are_distinct model.now.features ≡ true }
+        ensures { IsPart result Goal.Constructor model.now.features class.now }
+    {
+        Part {
+            goal: Goal::Constructor,
+            features: model.features.slice(),
+            class: class.text(),
+        }
+    }
+
+    /// The machine before the first token; a project and a model bring their features.
+    pub fn machine(self, alloc: Global) -> Result<Machine<'a>, AllocError>
+        ensures { IfOk result (λ machine. machine_seen machine ≡ start_for self.entry.goal self.entry.features.now self.entry.class.now) }
+    {
+        match self.goal {
+            Goal::Project | Goal::Model => Ok(Machine::new(alloc)),
+            Goal::Class => self.begin(alloc, Mode::BetweenClasses, NO_NAME),
+            Goal::Constructor => self.begin(alloc, Mode::InMembers, self.class),
+            Goal::Field | Goal::Name => self.begin(alloc, Mode::InMembers, NO_NAME),
+            Goal::Method | Goal::Member => self.begin(alloc, Mode::InMethods, NO_NAME),
+            Goal::Expression => self.begin(alloc, Mode::InExpression, NO_NAME),
+        }
+    }
+
+    fn begin(
+        self,
+        alloc: Global,
+        mode: Mode,
+        name: &'a str,
+    ) -> Result<Machine<'a>, AllocError>
+        requires { is_name name.now ≡ true }
+        ensures { IfOk result (λ machine. machine_seen machine ≡ record (behind self.entry.features.now [] []) { mode = mode; name = name.entry.now }) }
+    {
+        let features = features_of(alloc, self.features)?;
+        Ok(Machine::beginning(alloc, mode, features, name))
+    }
+
+    /// What counts as met before the first token: the features.
+    pub fn tally(self, alloc: Global) -> Result<Tally<'a>, AllocError>
+        ensures { IfOk result (λ tally. tally_seen tally ≡ met_of self.entry) }
+    {
+        let mut tally = Tally::new(alloc);
+        'each: for item in self.features {
+            tally.count(Role::FeatureName(item.text()))?;
+        }
+        Ok(tally)
+    }
+}

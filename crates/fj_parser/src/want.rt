@@ -1,0 +1,10 @@
+/// Which members are read.
+#[derive(Clone, Copy, Debug, PartialEq, Eq)]
+pub enum Want {
+    /// Fields and methods.
+    Any,
+    /// Fields alone.
+    Field,
+    /// Methods alone.
+    Method,
+}

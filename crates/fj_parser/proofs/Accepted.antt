@@ -178,8 +178,8 @@ waiting_taken p s n t u w x token at is own goes once h roles places =
     record {
       accepted = record { goes = goes; within = subst (AreWithin t) (sym all) h.within; counts = h.counts ∙ ap (tallied t) (sym all) };
       waits =
-        roles ∙ ap (λ rs. rs ++ role s token ∷ []) (left_roles c w ∙ ap (expression.left c) is)
-        ∙ ap (λ b. expression.left c (pending s) ++ expression.where_so b (role s token)) (sym own) ∙ sym (waits_behind_for p.goal s n token goes once);
+          roles ∙ ap (λ rs. rs ++ role s token ∷ []) (left_roles c w ∙ ap (expression.left c) is)
+          ∙ ap (λ b. expression.left c (pending s) ++ expression.where_so b (role s token)) (sym own) ∙ sym (waits_behind_for p.goal s n token goes once);
       stand = places ∙ settled_behind c w at ∙ ap (λ rs. drop (length rs) (waiting_places w ++ at ∷ [])) (ap (expression.settled c) is ∙ sym all);
     }
 

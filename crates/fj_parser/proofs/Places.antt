@@ -88,14 +88,14 @@ module _ (met : Tally) (m : Reader) (settles : SettlesEach m) where
         reading = reads_more met m text rest s n t u x from next h.reading found a;
         each = omega arith;
         stand = λ i told f.
-          let g : slice_get (places ++ at ∷ []) (k + i) ≡ Some told = sym (get-drop k (places ++ at ∷ []) i) ∙ ap (λ ps. slice_get ps i) (sym e) ∙ f in
-          let few : k + i ≤ length places = within_places places at (k + i) told g in
-          let stand : IsStanding text (take (length h.reading.roles + (k + i)) h.reading.tokens) told = all_stand text rest s t places h (token_of x) from at (ap (λ y. token_seen y) found) is (k + i) told g in
-          let long : length h.reading.roles + length (m.pending s) ≡ length h.reading.tokens = roles_long m settles h.reading.tokens s h.reading.roles h.reading.ran in
-          let same : take (length h.reading.roles + (k + i)) (h.reading.tokens ++ token_of x ∷ []) ≡ take (length h.reading.roles + (k + i)) h.reading.tokens = take-append-le (length h.reading.roles + (k + i)) h.reading.tokens (token_of x ∷ []) (omega arith) in
-          let sum : length (h.reading.roles ++ m.emitted s (token_of x)) ≡ length h.reading.roles + k = length-append h.reading.roles (m.emitted s (token_of x)) in
-          let at_sum : length (h.reading.roles ++ m.emitted s (token_of x)) + i ≡ length h.reading.roles + (k + i) = omega arith in
-          subst (λ ts. IsStanding text ts told) (sym (ap (λ j. take j (h.reading.tokens ++ token_of x ∷ [])) at_sum ∙ same)) stand;
+            let g : slice_get (places ++ at ∷ []) (k + i) ≡ Some told = sym (get-drop k (places ++ at ∷ []) i) ∙ ap (λ ps. slice_get ps i) (sym e) ∙ f in
+            let few : k + i ≤ length places = within_places places at (k + i) told g in
+            let stand : IsStanding text (take (length h.reading.roles + (k + i)) h.reading.tokens) told = all_stand text rest s t places h (token_of x) from at (ap (λ y. token_seen y) found) is (k + i) told g in
+            let long : length h.reading.roles + length (m.pending s) ≡ length h.reading.tokens = roles_long m settles h.reading.tokens s h.reading.roles h.reading.ran in
+            let same : take (length h.reading.roles + (k + i)) (h.reading.tokens ++ token_of x ∷ []) ≡ take (length h.reading.roles + (k + i)) h.reading.tokens = take-append-le (length h.reading.roles + (k + i)) h.reading.tokens (token_of x ∷ []) (omega arith) in
+            let sum : length (h.reading.roles ++ m.emitted s (token_of x)) ≡ length h.reading.roles + k = length-append h.reading.roles (m.emitted s (token_of x)) in
+            let at_sum : length (h.reading.roles ++ m.emitted s (token_of x)) + i ≡ length h.reading.roles + (k + i) = omega arith in
+            subst (λ ts. IsStanding text ts told) (sym (ap (λ j. take j (h.reading.tokens ++ token_of x ∷ [])) at_sum ∙ same)) stand;
       }
 
 module _ {V : Type 0} (l : Language V) (m : Reader) (laws : Reads l m) where

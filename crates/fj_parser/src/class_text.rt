@@ -26,11 +26,7 @@ fn read_class<'a>(
 }
 
 /// The class that a text stands for, or the text's first fault; marks name features of the model.
-pub fn parse_class(
-    alloc: Global,
-    text: &str,
-    model: &FeatureModel,
-) -> Result<Class, ParseFault>
+pub fn parse_class(alloc: Global, text: &str, model: &FeatureModel) -> Result<Class, ParseFault>
     requires few { nat_le (length model.now.features) most_features ≡ true }
     requires distinct { are_distinct model.now.features ≡ true }
     // What is read is the value of a text of the grammar, and every text of the grammar is read.

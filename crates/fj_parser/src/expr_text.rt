@@ -11,10 +11,7 @@ use crate::reading::read_text;
 use cfj_model::{Expr, FaultKind, ParseFault};
 use std::alloc::Global;
 
-fn read_expr<'a>(
-    alloc: Global,
-    text: &'a str,
-) -> Result<Expr, ParseFault>
+fn read_expr<'a>(alloc: Global, text: &'a str) -> Result<Expr, ParseFault>
     ensures read { IfOk result (λ expr. IsTextOf expressions text.entry.now expr) }
     ensures fault { (at : ℕ) (kind : _) → result ≡ Err (ParseFault.At at kind) → IsFirstFault expressions text.entry.now at kind }
 {
@@ -23,10 +20,7 @@ fn read_expr<'a>(
 }
 
 /// The expression without marks that a text stands for, or the text's first fault.
-pub fn parse_expr(
-    alloc: Global,
-    text: &str,
-) -> Result<Expr, ParseFault>
+pub fn parse_expr(alloc: Global, text: &str) -> Result<Expr, ParseFault>
     // What is read is the value of a text of the grammar, and every text of the grammar is read.
     ensures read { IfOk result (λ expr. IsTextOf expressions text.now expr) }
     ensures only { (expr : Expr) → IsTextOf expressions text.now expr → IsReadAs expr result }

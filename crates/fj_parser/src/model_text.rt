@@ -10,10 +10,7 @@ use crate::reading::read_text;
 use cfj_model::{FaultKind, FeatureModel, ParseFault};
 use std::alloc::Global;
 
-fn read_model<'a>(
-    alloc: Global,
-    text: &'a str,
-) -> Result<FeatureModel, ParseFault>
+fn read_model<'a>(alloc: Global, text: &'a str) -> Result<FeatureModel, ParseFault>
     ensures read { IfOk result (λ model. IsTextOf models text.entry.now model) }
     ensures fault { (at : ℕ) (kind : _) → result ≡ Err (ParseFault.At at kind) → IsFirstFault models text.entry.now at kind }
 {
@@ -23,10 +20,7 @@ fn read_model<'a>(
 }
 
 /// The feature model that a text stands for, or the text's first fault.
-pub fn parse_model(
-    alloc: Global,
-    text: &str,
-) -> Result<FeatureModel, ParseFault>
+pub fn parse_model(alloc: Global, text: &str) -> Result<FeatureModel, ParseFault>
     // What is read is the value of a text of the grammar, and every text of the grammar is read.
     ensures read { IfOk result (λ model. IsTextOf models text.now model) }
     ensures only { (model : FeatureModel) → IsTextOf models text.now model → IsReadAs model result }

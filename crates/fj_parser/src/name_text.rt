@@ -29,10 +29,7 @@ fn read_name(alloc: Global, text: &str) -> Result<Name, ParseFault>
 }
 
 /// The name that a text stands for, or the text's first fault.
-pub fn parse_name(
-    alloc: Global,
-    text: &str,
-) -> Result<Name, ParseFault>
+pub fn parse_name(alloc: Global, text: &str) -> Result<Name, ParseFault>
     // What is read is the value of a text of the grammar, and every text of the grammar is read.
     ensures read { IfOk result (λ name. IsTextOf names text.now name) }
     ensures only { (name : List ℕ) → IsTextOf names text.now name → IsReadAs name result }

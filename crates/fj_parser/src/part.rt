@@ -90,12 +90,7 @@ impl<'a> Part<'a> {
         }
     }
 
-    fn begin(
-        self,
-        alloc: Global,
-        mode: Mode,
-        name: &'a str,
-    ) -> Result<Machine<'a>, AllocError>
+    fn begin(self, alloc: Global, mode: Mode, name: &'a str) -> Result<Machine<'a>, AllocError>
         requires { is_name name.now ≡ true }
         ensures { IfOk result (λ machine. machine_seen machine ≡ record (behind self.entry.features.now [] []) { mode = mode; name = name.entry.now }) }
     {

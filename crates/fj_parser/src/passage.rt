@@ -132,7 +132,10 @@ pub(crate) fn in_member(machine: &Machine<'_>, symbol: Symbol<'_>) -> Passage
 fn member_or_end(machine: &Machine<'_>, symbol: Symbol<'_>) -> Passage
     ensures { DoesIn Mode.InMethods result goal.Member (machine_seen machine.now) (symbol_seen symbol.entry) }
 {
-    match (machine.fields.is_empty() && machine.methods.is_empty(), symbol) {
+    match (
+        machine.fields.is_empty() && machine.methods.is_empty(),
+        symbol,
+    ) {
         (true, Symbol::At | Symbol::Id(_)) => Passage::Steps,
         (false, Symbol::End) => Passage::Ends,
         _ => Passage::Stops,

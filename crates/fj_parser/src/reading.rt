@@ -111,9 +111,25 @@ fn read_tokens<'a>(
             Ok(token) => token,
             Err(fault) => return Err(fault_of(first_fault(alloc, tally, waiting, fault)?)),
         };
-        take(alloc, part, machine, tally, &mut waiting, symbol_of(token), token.at)?;
+        take(
+            alloc,
+            part,
+            machine,
+            tally,
+            &mut waiting,
+            symbol_of(token),
+            token.at,
+        )?;
     }
-    take(alloc, part, machine, tally, &mut waiting, Symbol::End, lexer.text.len())
+    take(
+        alloc,
+        part,
+        machine,
+        tally,
+        &mut waiting,
+        Symbol::End,
+        lexer.text.len(),
+    )
 }
 
 /// Reads a whole text by a machine that stands before the first token.

@@ -1,5 +1,6 @@
 mod bodies;
 mod copies;
+mod entries;
 mod limits;
 mod methods;
 mod slow;

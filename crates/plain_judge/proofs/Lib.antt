@@ -1,0 +1,12 @@
+pub mod Bits
+pub mod Concluded
+pub mod Considering
+pub mod Denying
+pub mod Growing
+pub mod Limits
+pub mod Mirroring
+pub mod Mirrors
+pub mod Places
+pub mod ProjectPairs
+pub mod Sought
+pub mod Spending

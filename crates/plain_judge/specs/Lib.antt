@@ -1,0 +1,8 @@
+pub mod BodySites
+pub mod Concluding
+pub mod Denials
+pub mod Order
+pub mod Pairs
+pub mod Questions
+pub mod Searching
+pub mod SiteParts

@@ -1,0 +1,72 @@
+ghost use Rattle.std.specs.Prelude.{◌≡◌, ◌↔◌, IsTrue, IfOk, map};
+ghost use Rattle.cfj_model.specs.UnitClauses.{Has};
+ghost use Rattle.plain_judge.specs.Questions as spec;
+
+use crate::same_sites::same_site;
+use cfj_model::{Rule, Selection, Site};
+use std::alloc::{AllocError, Global};
+
+/// Whether the rule breaks at the site under some valid selection.
+#[derive(Debug, Drop)]
+pub struct Question {
+    /// The node.
+    pub site: Site,
+    /// The rule.
+    pub rule: Rule,
+    /// The least valid selection under which it breaks there, if one is found.
+    pub answer: Option<Selection>,
+}
+
+/// Whether the pair of the site and the rule is among these.
+fn is_among(pairs: &[(Site, Rule)], site: &Site, rule: Rule) -> bool
+    ensures { IsTrue result ↔ Has pairs.now (site.now, rule) }
+{
+    'each: for pair in pairs {
+        if pair.1 == rule && same_site(&pair.0, site) {
+            return true;
+        }
+    }
+    false
+}
+
+impl Question {
+    /// Takes a selection as its answer, if it has none and its pair is among those that break in the variant of the selection.
+    fn consider(&mut self, breaks: &[(Site, Rule)], selection: Selection)
+        ensures { spec.IsConsidered breaks.now selection self.old self.new }
+    {
+        if self.answer.is_none() && is_among(breaks, &self.site, self.rule) {
+            self.answer = Some(selection);
+        }
+    }
+}
+
+/// A question about each pair, without an answer.
+pub fn questions_of(alloc: Global, pairs: Vec<(Site, Rule)>) -> Result<Vec<Question>, AllocError>
+    ensures { IfOk result (λ questions. questions.items ≡ map spec.unanswered pairs.items) }
+{
+    let mut questions: Vec<Question> = Vec::new(alloc);
+    'each: for (site, rule) in pairs {
+        questions.push(Question {
+            site,
+            rule,
+            answer: None,
+        })?;
+    }
+    Ok(questions)
+}
+
+/// Every question considers a selection.
+pub fn consider_all(questions: &mut [Question], breaks: &[(Site, Rule)], selection: Selection)
+    ensures { spec.AreConsidered breaks.now selection questions.old questions.new }
+{
+    'each: for question in questions.iter_mut() {
+        question.consider(breaks, selection);
+    }
+}
+
+/// Whether every question has an answer.
+pub fn are_answered(questions: &[Question]) -> bool
+    ensures { result ≡ spec.are_answered questions.now }
+{
+    questions.iter().all(|question| question.answer.is_some())
+}

@@ -1,8 +1,10 @@
 -- What is in hand behind the end of a part's text.
-use Rattle.std.proofs.Common.{◌≡◌, ℕ, List, [], ◌∷◌}
+use Rattle.std.proofs.Common.{◌≡◌, ℕ, ◌+◌, List, [], ◌∷◌, length, sym, ap, ◌∙◌, arith}
 use Rattle.cfj_model.specs.declared.class.Class.{Class}
 use Rattle.cfj_model.specs.declared.class.Field.{Field}
 use Rattle.cfj_model.specs.declared.class.Method.{Method}
+use Rattle.cfj_model.specs.declared.member.Member.{Member}
+use Rattle.cfj_model.specs.declared.member.Member.TheVariants as member
 use Rattle.fj_parser.specs.Ending.{IsReadTo}
 use Rattle.fj_parser.specs.GoalViews.{met_of, reader_of, IsPart}
 use Rattle.fj_parser.specs.Machine.{State, unnamed}
@@ -11,7 +13,7 @@ use Rattle.fj_parser.specs.declared.part.Part.{Part}
 use Rattle.fj_parser.proofs.ClassLaw.{class_laws, class_stands}
 use Rattle.fj_parser.proofs.ExpressionLaw.{expression_laws, expression_stands}
 use Rattle.fj_parser.proofs.FieldLaw.{field_laws, field_stands}
-use Rattle.fj_parser.proofs.MemberLaw.{member_laws, member_stands, IsMember}
+use Rattle.fj_parser.proofs.MemberLaw.{member_laws, member_stands, IsMember, as_field, as_method}
 use Rattle.fj_parser.proofs.MethodLaw.{method_laws, method_stands}
 use Rattle.fj_parser.proofs.PartTexts.{read_by_goal}
 
@@ -43,3 +45,12 @@ pub one_body : (p : Part) → IsPart p goal.Expression [] unnamed → (text : Li
 one_body p is text n r =
     let h = read_by_goal p goal.Expression [] unnamed is text n r in
     expression_stands h.reading.tokens h.s n h.reading.roles h.reading.ran h.accepted.goes
+
+-- A member by itself is the one field in hand, or the one method.
+pub one_in_all : (features : List (List ℕ)) (n : State) (x : Member) → IsMember features n x → length n.fields + length n.methods ≡ 1
+one_in_all features n x (as_field f fields methods is) = let a : length n.fields ≡ 1 = ap length fields in let b : length n.methods ≡ 0 = ap length methods in omega arith
+one_in_all features n x (as_method m fields methods is) = let a : length n.fields ≡ 0 = ap length fields in let b : length n.methods ≡ 1 = ap length methods in omega arith
+
+pub the_member : (features : List (List ℕ)) (n : State) (x y : Member) → IsMember features n x → ((f : Field) → n.fields ≡ f ∷ [] → y ≡ member.Field f) → ((m : Method) → n.fields ≡ [] → n.methods ≡ m ∷ [] → y ≡ member.Method m) → x ≡ y
+the_member features n x y (as_field f fields methods is) field method = is ∙ sym (field f fields)
+the_member features n x y (as_method m fields methods is) field method = is ∙ sym (method m fields methods)

@@ -1,8 +1,9 @@
-//! Reads the text of a project.
+//! Reads the text of a project, or of a part of one by itself: a feature model, a class, a constructor, a field or a method, a
+//! name, or an expression.
 //!
 //! The parser is a machine that takes one token a step and never looks ahead; beside it a tally keeps what has been met, and
-//! tells which limit or rule a token breaks. Its answer is the product line that the text stands for, or the text's first
-//! fault.
+//! tells which limit or rule a token breaks. Its answer is what the text stands for, or the text's first fault. One machine reads
+//! all parts: `Goal` says where it starts, which tokens it takes there, and where it ends.
 #![tactic(auto)]
 
 mod accept;
@@ -14,6 +15,7 @@ mod expr_text;
 mod goal;
 mod heads;
 mod machine;
+mod member_text;
 mod members;
 mod methods;
 mod mode;
@@ -30,4 +32,12 @@ mod settle;
 mod waiting;
 mod want;
 
+pub use cfj_model::Member;
+pub use class_text::parse_class;
+pub use constructor_text::parse_constructor;
+pub use expr_text::parse_expr;
+pub use member_text::parse_member;
+pub use model_text::parse_model;
+pub use name_text::parse_name;
 pub use parser::parse_project;
+pub use want::Want;

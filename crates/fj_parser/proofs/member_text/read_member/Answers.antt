@@ -1,0 +1,38 @@
+use Rattle.std.proofs.Common.{◌≡◌, Err, refl, sym, subst, ◌∙◌}
+use Rattle.std.proofs.lemmas.Result.{err_from_is_err_and}
+use Rattle.cfj_model.specs.declared.fault.ParseFault.TheVariants.{At}
+use Rattle.cfj_model.specs.Faults.{IsTextOf}
+use Rattle.fj_parser.specs.Languages.{single_members}
+use Rattle.fj_parser.specs.Machine.{unnamed}
+use Rattle.fj_parser.specs.MachineViews.{machine_seen}
+use Rattle.fj_parser.specs.declared.goal.Goal.TheVariants as reads
+use Rattle.fj_parser.proofs.MemberLaw.{member_laws}
+use Rattle.fj_parser.proofs.PartEnds.{one_member, one_in_all, the_member}
+use Rattle.fj_parser.proofs.PartTexts.{part_settles, part_text, part_fault}
+use Rattle.fj_parser.proofs.member_text.read_member.Goals as goal
+
+pub read_text-requires : goal.read_text-requires
+read_text-requires c =
+    let features = c.args.model.now.features in
+    part_settles c.under.result reads.Member features unnamed c.under.ensures (single_members features) (member_laws features)
+
+pub returns-in_err-machine-clause-fault : goal.returns-in_err-machine-clause-fault
+returns-in_err-machine-clause-fault c = λ at kind e.
+    let features = c.args.model.now.features in
+    let p = err_from_is_err_and c.from_residual.result c.from_residual.ensures.1 in
+    let told : c.read_text.result ≡ Err (At at kind) = cc (p.1, p.2, e, c.in_err-machine.was) in
+    part_fault c.under.result reads.Member features unnamed c.under.ensures (single_members features) (member_laws features) refl c.args.text.now at kind c.utf8.text (c.read_text.ensures.fault at kind told)
+
+pub one_of-requires : goal.one_of-requires
+one_of-requires c =
+    let features = c.args.model.now.features in
+    let n = machine_seen c.in_ok-machine.machine in
+    one_in_all features n _ (one_member c.under.result features c.under.ensures c.args.text.now n c.in_ok-machine.ensures.read)
+
+pub returns-clause-read : goal.returns-clause-read
+returns-clause-read c =
+    let features = c.args.model.now.features in
+    let n = machine_seen c.in_ok-machine.machine in
+    subst (IsTextOf (single_members features) c.args.text.now)
+    (the_member features n _ c.one_of.result (one_member c.under.result features c.under.ensures c.args.text.now n c.in_ok-machine.ensures.read) c.one_of.ensures.field c.one_of.ensures.method)
+    (part_text c.under.result reads.Member features unnamed c.under.ensures (single_members features) (member_laws features) refl c.args.text.now n c.utf8.text c.in_ok-machine.ensures.read)

@@ -1,0 +1,39 @@
+use Rattle.std.proofs.Common.{◌≡◌, Err, length, refl, ap, subst, ◌∙◌}
+use Rattle.std.proofs.lemmas.Result.{err_from_is_err_and}
+use Rattle.cfj_model.specs.declared.fault.ParseFault.TheVariants.{At}
+use Rattle.cfj_model.specs.declared.member.Member.TheVariants as member
+use Rattle.cfj_model.specs.Faults.{IsTextOf}
+use Rattle.fj_parser.specs.Goals.{reader_for}
+use Rattle.fj_parser.specs.Languages.{single_methods}
+use Rattle.fj_parser.specs.Machine.{unnamed}
+use Rattle.fj_parser.specs.MachineViews.{machine_seen}
+use Rattle.fj_parser.specs.Wanted.{standing_for}
+use Rattle.fj_parser.specs.declared.goal.Goal.TheVariants as reads
+use Rattle.fj_parser.proofs.MethodLaw.{method_laws}
+use Rattle.fj_parser.proofs.PartEnds.{one_method, one_item}
+use Rattle.fj_parser.proofs.PartTexts.{part_settles, part_text, part_fault}
+use Rattle.fj_parser.proofs.StandingFor.{laws_for}
+use Rattle.fj_parser.proofs.member_text.read_method.Goals as goal
+
+pub read_text-requires : goal.read_text-requires
+read_text-requires c =
+    let features = c.args.model.now.features in
+    part_settles c.under.result reads.Method features unnamed c.under.ensures (standing_for member.Method (single_methods features)) (laws_for member.Method (single_methods features) (reader_for reads.Method features unnamed) (method_laws features))
+
+pub returns-in_err-machine-clause-fault : goal.returns-in_err-machine-clause-fault
+returns-in_err-machine-clause-fault c = λ at kind e.
+    let features = c.args.model.now.features in
+    let p = err_from_is_err_and c.from_residual.result c.from_residual.ensures.1 in
+    let told : c.read_text.result ≡ Err (At at kind) = cc (p.1, p.2, e, c.in_err-machine.was) in
+    part_fault c.under.result reads.Method features unnamed c.under.ensures (standing_for member.Method (single_methods features)) (laws_for member.Method (single_methods features) (reader_for reads.Method features unnamed) (method_laws features)) refl c.args.text.now at kind c.utf8.text (c.read_text.ensures.fault at kind told)
+
+pub only-requires : goal.only-requires
+only-requires c = ap length (one_method c.under.result c.args.model.now.features c.under.ensures c.args.text.now (machine_seen c.in_ok-machine.machine) c.in_ok-machine.ensures.read).1
+
+pub returns-clause-read : goal.returns-clause-read
+returns-clause-read c =
+    let features = c.args.model.now.features in
+    let n = machine_seen c.in_ok-machine.machine in
+    let x = one_method c.under.result features c.under.ensures c.args.text.now n c.in_ok-machine.ensures.read in
+    subst (IsTextOf (standing_for member.Method (single_methods features)) c.args.text.now) (ap (λ y. member.Method y) (x.2 ∙ one_item n.methods x.0 c.only.result x.1 c.only.ensures))
+    (part_text c.under.result reads.Method features unnamed c.under.ensures (standing_for member.Method (single_methods features)) (laws_for member.Method (single_methods features) (reader_for reads.Method features unnamed) (method_laws features)) refl c.args.text.now n c.utf8.text c.in_ok-machine.ensures.read)

@@ -53,3 +53,4 @@ pub mod Texts
 pub mod TextsKept
 pub mod TokenReads
 pub mod Unmarked
+pub mod WantedTexts

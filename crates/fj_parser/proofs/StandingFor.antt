@@ -8,7 +8,7 @@ use Rattle.fj_parser.specs.Readers.{Reader}
 use Rattle.fj_parser.specs.Wanted.{standing_for}
 
 module _ {V W : Type 0} (f : V → W) (l : Language V) (m : Reader) (laws : Reads l m) where
-  closes_so : (ts : List Token) (rs waiting : List Role) → Closes l ts rs waiting → Closes (standing_for f l) ts rs waiting
+  pub closes_so : (ts : List Token) (rs waiting : List Role) → Closes l ts rs waiting → Closes (standing_for f l) ts rs waiting
   closes_so ts rs waiting c = record { tree = c.tree; more = c.more; others = c.others; text = c.text; in_roles = c.in_roles }
 
   abbrev pub laws_for : Reads (standing_for f l) m

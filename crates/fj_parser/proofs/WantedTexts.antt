@@ -1,0 +1,35 @@
+-- What is answered of a member that is wanted is the only answer.
+use Rattle.std.proofs.Common.{◌≡◌, ℕ, List, Result, Err, IfOk}
+use Rattle.cfj_model.specs.declared.fault.FaultKind.{FaultKind}
+use Rattle.cfj_model.specs.declared.fault.ParseFault.{ParseFault}
+use Rattle.cfj_model.specs.declared.fault.ParseFault.TheVariants.{At}
+use Rattle.cfj_model.specs.declared.member.Member.{Member}
+use Rattle.cfj_model.specs.declared.member.Member.TheVariants as member
+use Rattle.cfj_model.specs.Faults.{IsTextOf, IsFirstFault}
+use Rattle.fj_parser.specs.Answers.{IsReadAs, IsRefusedAs}
+use Rattle.fj_parser.specs.Goals.{reader_for}
+use Rattle.fj_parser.specs.Languages.{single_fields, single_methods, single_members}
+use Rattle.fj_parser.specs.Machine.{unnamed}
+use Rattle.fj_parser.specs.Wanted.{members_wanted, standing_for}
+use Rattle.fj_parser.specs.declared.goal.Goal.TheVariants as goal
+use Rattle.fj_parser.specs.declared.want.Want.{Want}
+use Rattle.fj_parser.specs.declared.want.Want.TheVariants.{Any, Field, Method}
+use Rattle.fj_parser.proofs.Exact.{only_read, only_told}
+use Rattle.fj_parser.proofs.FieldLaw.{field_laws}
+use Rattle.fj_parser.proofs.MemberLaw.{member_laws}
+use Rattle.fj_parser.proofs.MethodLaw.{method_laws}
+use Rattle.fj_parser.proofs.StandingFor.{laws_for}
+
+-- what is read is a text's value, and what is told its first fault
+abbrev pub IsAnswer : Want → List (List ℕ) → List ℕ → Result Member ParseFault → Type 0
+IsAnswer want features text r = IfOk r (λ m. IsTextOf (members_wanted want features) text m) × ((at : ℕ) (kind : FaultKind) → r ≡ Err (At at kind) → IsFirstFault (members_wanted want features) text at kind)
+
+pub only_wanted : (want : Want) (features : List (List ℕ)) (text : List ℕ) (r : Result Member ParseFault) → IsAnswer want features text r → (m : Member) → IsTextOf (members_wanted want features) text m → IsReadAs m r
+only_wanted Any features text r h = only_read (single_members features) (reader_for goal.Member features unnamed) (member_laws features) text r h.0 h.1
+only_wanted Field features text r h = only_read (standing_for member.Field (single_fields features)) (reader_for goal.Field features unnamed) (laws_for member.Field (single_fields features) (reader_for goal.Field features unnamed) (field_laws features)) text r h.0 h.1
+only_wanted Method features text r h = only_read (standing_for member.Method (single_methods features)) (reader_for goal.Method features unnamed) (laws_for member.Method (single_methods features) (reader_for goal.Method features unnamed) (method_laws features)) text r h.0 h.1
+
+pub first_wanted : (want : Want) (features : List (List ℕ)) (text : List ℕ) (r : Result Member ParseFault) → IsAnswer want features text r → (at : ℕ) (kind : FaultKind) → IsFirstFault (members_wanted want features) text at kind → IsRefusedAs at kind r
+first_wanted Any features text r h = only_told (single_members features) (reader_for goal.Member features unnamed) (member_laws features) text r h.0 h.1
+first_wanted Field features text r h = only_told (standing_for member.Field (single_fields features)) (reader_for goal.Field features unnamed) (laws_for member.Field (single_fields features) (reader_for goal.Field features unnamed) (field_laws features)) text r h.0 h.1
+first_wanted Method features text r h = only_told (standing_for member.Method (single_methods features)) (reader_for goal.Method features unnamed) (laws_for member.Method (single_methods features) (reader_for goal.Method features unnamed) (method_laws features)) text r h.0 h.1

@@ -7,11 +7,7 @@
 # writes than one for each 4 KiB of output and ten, or more reads than one for each 16 KiB of input and ten.
 set -eu
 
-runs=${1:-9}
-top=$(dirname "$(dirname "$(readlink -f "${BASH_SOURCE[0]}")")")
-work=$(mktemp -d)
-trap 'rm -rf "$work"' EXIT
-. "$top/bench/timing.sh"
+. "$(dirname "$(readlink -f "${BASH_SOURCE[0]}")")/timing.sh"
 
 python_words='import sys; text = open(sys.argv[1], encoding="utf-8").read(); sys.stdout.write(" ".join(text.split()))'
 

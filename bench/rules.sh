@@ -7,11 +7,7 @@
 # takes longer than javac, of whose time its time for one empty class is taken away first.
 set -eu
 
-runs=${1:-9}
-top=$(dirname "$(dirname "$(readlink -f "${BASH_SOURCE[0]}")")")
-work=$(mktemp -d)
-trap 'rm -rf "$work"' EXIT
-. "$top/bench/timing.sh"
+. "$(dirname "$(readlink -f "${BASH_SOURCE[0]}")")/timing.sh"
 
 crate=$top/crates/rule_bench
 program=$crate/out/rule_bench

@@ -1,5 +1,10 @@
-# What the benches share. They set `runs`, the number of runs of each command, and `work`, a folder of their own.
+# What the benches share: the number of runs of each command, which is their first word, the top of the repository, a folder for what
+# they write, and whether a check has failed.
 
+runs=${1:-9}
+top=$(dirname "$(dirname "$(readlink -f "${BASH_SOURCE[0]}")")")
+work=$(mktemp -d)
+trap 'rm -rf "$work"' EXIT
 failed=0
 
 # the least time in microseconds that a command took

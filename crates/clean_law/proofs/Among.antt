@@ -19,6 +19,10 @@ among_append {A} xs ys us vs front back x h = go (has_either xs us x h)
     go (inl here) = has_left ys vs x (front x here)
     go (inr here) = has_right ys vs x (back x here)
 
+-- the same behind the same items
+pub among_behind : {A : Type 0} (own xs ys : List A) → AreAmong xs ys → AreAmong (own ++ xs) (own ++ ys)
+among_behind own xs ys h = among_append own own xs ys (λ x here. here) h
+
 -- What is made of items that are kept gives no more than the items did.
 pub among_kept : {A B C : Type 0} (made : A → B) (keeps : A → Bool) (f : A → List C) (g : B → List C) → ((x : A) → AreAmong (g (made x)) (f x)) → (xs : List A) → AreAmong (flat_map g (kept made keeps xs)) (flat_map f xs)
 among_kept made keeps f g h [] = λ x here. here

@@ -24,7 +24,7 @@ never_among line budget _ (AreExact.unbroken q ps _ none rest) p h = go (has_cas
     go (inl same) later = subst (λ r. IsNever line (BreaksIn line r)) same none
     go (inr here) later = later here
 
--- where no rule breaks at a site, no pair is the first that does
+-- where nothing that is judged breaks, no pair is the first that does
 quiet : (table : Table) → ((j : Judged) → Has (judged table) j → Breaks table j.site j.rule → ⊥) → first_breaking table ≡ None
 quiet table never = ap (option_map pair_of) (none_find (λ (j : Judged). j.breaks) (judged table) (λ j h. false_from_ne_true j.breaks (breaks j h)))
   where

@@ -1,16 +1,14 @@
 -- The pairs of a variant are pairs of the line: what is present has the sites that it had.
-use Rattle.std.proofs.Common.{◌≡◌, refl, ℕ, Bool, List, [], ◌∷◌, ◌++◌, map, ap, sym, ◌∙◌}
-use Rattle.std.specs.List.{filter, flat_map}
+use Rattle.std.proofs.Common.{refl, ℕ, Bool, List, [], ◌∷◌, ◌++◌, ap, ◌∙◌}
+use Rattle.std.specs.List.{flat_map}
 use Rattle.std.proofs.lemmas.List.Folds.{flat_map-map}
 use Rattle.cfj_model.proofs.ExprCases.{Proved, args_of, by_cases}
 use Rattle.cfj_model.specs.Judging.{Pair, pairs_of}
 use Rattle.cfj_model.specs.ProductLines.{ProductLine}
-use Rattle.cfj_model.specs.Projection.{bare_field, bare_param, is_present, presence_of, present_fields, present_methods, present_params, projected, projected_class, projected_expr, projected_method}
+use Rattle.cfj_model.specs.Projection.{bare_field, bare_param, is_present, presence_of, projected, projected_class, projected_expr, projected_method}
 use Rattle.cfj_model.specs.Selections.{Chosen}
 use Rattle.cfj_model.specs.declared.class.Class.{Class}
-use Rattle.cfj_model.specs.declared.class.Field.{Field}
 use Rattle.cfj_model.specs.declared.class.Method.{Method}
-use Rattle.cfj_model.specs.declared.class.Param.{Param}
 use Rattle.cfj_model.specs.declared.expr.Arg.{Arg}
 use Rattle.cfj_model.specs.declared.expr.Expr.{Expr}
 use Rattle.cfj_model.specs.declared.expr.Expr.TheVariants as e
@@ -21,8 +19,8 @@ use Rattle.cfj_model.specs.declared.site.Site.TheVariants as site
 use Rattle.feature_views.proofs.Kept.{kept, kept_of_map}
 use Rattle.feature_views.proofs.SelectedBodies.{arg_present, projected_arg, projected_args, projected_var, projected_get, projected_call, projected_new, projected_cast}
 use Rattle.plain_judge.specs.Pairs.{arg_pairs, class_pairs, ctor_pairs, ctor_param_pairs, field_pairs, method_pairs, node_pairs, pairs_at, param_pairs, project_pairs}
-use Rattle.plain_judge.proofs.ProjectPairs.{node_var, node_get, node_call, node_new, node_cast, project_listed}
-use Rattle.clean_law.proofs.Among.{AreAmong, among_as, among_append, among_kept}
+use Rattle.plain_judge.proofs.ProjectPairs.{node_get, node_call, node_new, node_cast, project_listed}
+use Rattle.clean_law.proofs.Among.{AreAmong, among_as, among_append, among_behind, among_kept}
 
 -- ---- bodies
 
@@ -44,7 +42,7 @@ module _ (s : Chosen) (at : ℕ → Site) where
 
   keeps_pairs : (x : Expr) → KeepsPairs x
   keeps_pairs = by_cases KeepsPairs (record {
-    var_case = λ slot name around more. 
+    var_case = λ slot name around more.
         let is = ap (λ x. node_pairs at x more) (projected_var s around slot name) in
         among_as _ (node_pairs at (e.Var slot name) more) (node_pairs at (e.Var slot name) more) (node_pairs at (e.Var slot name) more) is refl (λ p here. here);
     get_case = λ slot on part field around more.
@@ -59,20 +57,20 @@ module _ (s : Chosen) (at : ℕ → Site) where
         among_as _ _ (node_pairs at (projected_expr s around on) [] ++ (own ++ arg_pairs at E5 (projected_args s around args))) (node_pairs at on [] ++ (own ++ arg_pairs at E5 args))
         (ap (λ x. node_pairs at x more) (projected_call s around slot on method args) ∙ node_call at slot (projected_expr s around on) method (projected_args s around args) more)
         (node_call at slot on method args more)
-        (among_append _ _ _ _ (part around []) (among_append own own _ _ (λ p here. here) (arg_among around E5 ys)));
+        (among_append _ _ _ _ (part around []) (among_behind own _ _ (arg_among around E5 ys)));
     new_case = λ slot class ys around more.
         let own = pairs_at (at slot) (K1 ∷ (E6 ∷ more)) in
         let args = args_of KeepsPairs ys in
         among_as _ _ (own ++ arg_pairs at E7 (projected_args s around args)) (own ++ arg_pairs at E7 args)
         (ap (λ x. node_pairs at x more) (projected_new s around slot class args) ∙ node_new at slot class (projected_args s around args) more)
         (node_new at slot class args more)
-        (among_append own own _ _ (λ p here. here) (arg_among around E7 ys));
+        (among_behind own _ _ (arg_among around E7 ys));
     cast_case = λ slot class on part around more.
         let own = pairs_at (at slot) (K1 ∷ (E8 ∷ more)) in
         among_as _ _ (own ++ node_pairs at (projected_expr s around on) []) (own ++ node_pairs at on [])
         (ap (λ x. node_pairs at x more) (projected_cast s around slot class on) ∙ node_cast at slot class (projected_expr s around on) more)
         (node_cast at slot class on more)
-        (among_append own own _ _ (λ p here. here) (part around []));
+        (among_behind own _ _ (part around []));
   })
 
 -- ---- declarations
@@ -84,7 +82,7 @@ module _ (s : Chosen) (k : Class) where
   ctor_among : AreAmong (ctor_pairs variant) (ctor_pairs k)
   ctor_among =
       let own = pairs_at (site.Ctor k.name) (K4 ∷ (K5 ∷ (K6 ∷ []))) in
-      among_append own own (flat_map (ctor_param_pairs variant) variant.ctor.params) (flat_map (ctor_param_pairs k) k.ctor.params) (λ p here. here)
+      among_behind own (flat_map (ctor_param_pairs variant) variant.ctor.params) (flat_map (ctor_param_pairs k) k.ctor.params)
       (among_kept bare_param (λ q. is_present s (presence_of k.colors q.colors)) (ctor_param_pairs k) (ctor_param_pairs variant) (λ q p here. here) k.ctor.params)
 
   method_among : (m : Method) → AreAmong (method_pairs variant (projected_method s k.colors m)) (method_pairs k m)
@@ -95,7 +93,7 @@ module _ (s : Chosen) (k : Class) where
       let own = pairs_at (site.Method k.name m.name m.alt) (K1 ∷ (K7 ∷ (K8 ∷ []))) in
       let params = flat_map (param_pairs k m) m.params in
       let present = flat_map (param_pairs variant made) made.params in
-      among_append own own (present ++ node_pairs at made.body []) (params ++ node_pairs at m.body []) (λ p here. here)
+      among_behind own (present ++ node_pairs at made.body []) (params ++ node_pairs at m.body [])
       (among_append present params (node_pairs at made.body []) (node_pairs at m.body [])
       (among_kept bare_param (λ q. is_present s (presence_of within q.colors)) (param_pairs k m) (param_pairs variant made) (λ q p here. here) m.params)
       (keeps_pairs s at m.body within []))
@@ -107,7 +105,7 @@ module _ (s : Chosen) (k : Class) where
       let methods = flat_map (method_pairs k) k.methods in
       let present_fields = flat_map (field_pairs variant) variant.fields in
       let present_methods = flat_map (method_pairs variant) variant.methods in
-      among_append own own (present_fields ++ (ctor_pairs variant ++ present_methods)) (fields ++ (ctor_pairs k ++ methods)) (λ p here. here)
+      among_behind own (present_fields ++ (ctor_pairs variant ++ present_methods)) (fields ++ (ctor_pairs k ++ methods))
       (among_append present_fields fields (ctor_pairs variant ++ present_methods) (ctor_pairs k ++ methods)
       (among_kept bare_field (λ f. is_present s (presence_of k.colors f.colors)) (field_pairs k) (field_pairs variant) (λ f p here. here) k.fields)
       (among_append (ctor_pairs variant) (ctor_pairs k) present_methods methods ctor_among

@@ -23,8 +23,9 @@ abbrev pub IsBounded : Read → Type 0
 IsBounded (read.Check project budget) = (1 ≤ budget) × (budget ≤ 20000)
 IsBounded (read.Export project names) = Unit {0}
 
--- What was read is what is asked; nothing is asked where the words aren't a command's. Want of memory says nothing of the words.
+-- What was read is what is asked, within bounds; nothing is asked where the words aren't a command's. Want of memory says
+-- nothing of the words.
 abbrev pub IsAnswer : Option Asked → Result Read WordsFault → Type 0
-IsAnswer asks (Ok found) = asks ≡ Some (seen found)
+IsAnswer asks (Ok found) = (asks ≡ Some (seen found)) × IsBounded found
 IsAnswer asks (Err fault.NoCommand) = asks ≡ None
 IsAnswer asks (Err fault.NoMemory) = Unit {0}

@@ -1,4 +1,4 @@
-ghost use Rattle.std.specs.Prelude.{◌≡◌, IfOk, option_map};
+ghost use Rattle.std.specs.Prelude.{◌≡◌, IfOk, IfSome, option_map};
 ghost use Rattle.clap.specs.Words.{app_of, found_of, rows_of};
 ghost use Rattle.command_words.specs.Asked.{asked_check, check_command, check_of};
 ghost use Rattle.command_words.specs.Reading.{texts, seen, IsAnswer, IsBounded};
@@ -20,7 +20,8 @@ fn check_command<'a>(alloc: Global) -> Result<Command<'a>, AllocError>
 
 /// What the matches of `check` ask, if its number is in its range.
 fn check_of<'a>(matches: &ArgMatches<'a>) -> Option<Asked<'a>>
-    ensures { option_map seen result ≡ check_of (rows_of (found_of matches.now)) }
+    ensures asked { option_map seen result ≡ check_of (rows_of (found_of matches.now)) }
+    ensures bounded { IfSome result IsBounded }
 {
     let project = value_of(matches, "project")?;
     let budget = budget_of(value_of(matches, "budget"))?;
@@ -29,7 +30,7 @@ fn check_of<'a>(matches: &ArgMatches<'a>) -> Option<Asked<'a>>
 
 /// What the words of `check` ask.
 pub fn read_check<'a>(alloc: Global, words: &'a [String]) -> Result<Asked<'a>, WordsFault>
-    ensures { IsAnswer (asked_check (texts words.entry.now)) result }
+    ensures { IsAnswer (asked_check (texts words.now)) result }
 {
     let Ok(command) = check_command(alloc) else {
         return Err(WordsFault::NoMemory);

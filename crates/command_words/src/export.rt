@@ -28,7 +28,7 @@ fn export_of<'a>(matches: &ArgMatches<'a>) -> Option<Asked<'a>>
 
 /// What the words of `export` ask.
 pub fn read_export<'a>(alloc: Global, words: &'a [String]) -> Result<Asked<'a>, WordsFault>
-    ensures { IsAnswer (asked_export (texts words.entry.now)) result }
+    ensures { IsAnswer (asked_export (texts words.now)) result }
 {
     let Ok(command) = export_command(alloc) else {
         return Err(WordsFault::NoMemory);

@@ -20,12 +20,12 @@ fn fault_of(error: &Error) -> WordsFault
 
 /// The matches that a simple command has on the words, of which the first is its name.
 pub fn matches_of<'a>(command: Command<'a>, words: &'a [String]) -> Result<ArgMatches<'a>, WordsFault>
-    requires { is_simple_and_free (app_of command.entry) ≡ true }
-    ensures takes { IfOk result (λ _. takes_words (app_of command.entry) (texts words.entry.now) ≡ true) }
+    requires { is_simple_and_free (app_of command) ≡ true }
+    ensures takes { IfOk result (λ _. takes_words (app_of command.entry) (texts words.now) ≡ true) }
     ensures rows { IfOk result (λ matches.
-        rows_of (found_of matches) ≡ matches_of (app_of command.entry) (texts words.entry.now)) }
+        rows_of (found_of matches) ≡ matches_of (app_of command.entry) (texts words.now)) }
     ensures none { result ≡ Err WordsFault.NoCommand
-        → takes_words (app_of command.entry) (texts words.entry.now) ≡ false }
+        → takes_words (app_of command.entry) (texts words.now) ≡ false }
 {
     match command.try_get_matches_from(words) {
         Ok(matches) => Ok(matches),

@@ -19,7 +19,10 @@ fn fault_of(error: &Error) -> WordsFault
 }
 
 /// The matches that a simple command has on the words, of which the first is its name.
-pub fn matches_of<'a>(command: Command<'a>, words: &'a [String]) -> Result<ArgMatches<'a>, WordsFault>
+pub fn matches_of<'a>(
+    command: Command<'a>,
+    words: &'a [String],
+) -> Result<ArgMatches<'a>, WordsFault>
     requires { is_simple_and_free (app_of command) ≡ true }
     ensures takes { IfOk result (λ _. takes_words (app_of command.entry) (texts words.now) ≡ true) }
     ensures rows { IfOk result (λ matches.

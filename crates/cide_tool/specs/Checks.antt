@@ -14,9 +14,9 @@ use Rattle.cide_io.specs.Known.{Known, appended, IsCut}
 use Rattle.unit_facts.specs.Diagnostics.{Always, BreaksIn, IsChecked, IsDiagnosed, IsSpent, IsValidFor, are_decided}
 use Rattle.unit_facts.specs.Findings.{findings, is_broken}
 use Rattle.unit_facts.specs.declared.entry.Entry.{Entry}
-use Rattle.unit_facts.specs.declared.entry.Entry.TheVariants as entry
+use Rattle.unit_facts.specs.declared.entry.Entry.TheVariants.{Broken, Undecided}
 use Rattle.unit_facts.specs.declared.entry.Verdict.{Verdict}
-use Rattle.unit_facts.specs.declared.entry.Verdict.TheVariants as verdict
+use Rattle.unit_facts.specs.declared.entry.Verdict.TheVariants.{Unknown}
 use Rattle.cide_tool.specs.Running.{IsAllOf}
 
 -- the status that findings give: 1 where an entry is broken, else 2 where an entry or the verdict is undecided, else 0
@@ -28,13 +28,13 @@ pub record HasBroken (line : ProductLine) (es : List Entry) : Type 0 where
   pub site : Site
   pub rule : Rule
   pub selection : Chosen
-  pub printed : Has es (entry.Broken site rule selection)
+  pub printed : Has es (Broken site rule selection)
   pub least : IsDiagnosed line (site, rule) selection
 
 -- An undecided verdict or entry, with a log of exactly the budget's length.
 pub data HasUndecided (line : ProductLine) (budget : ℕ) (v : Verdict) (es : List Entry) : Type 0 where
-  verdict : (log : List Sides) → v ≡ verdict.Unknown log → IsSpent line budget Always log → length log ≡ budget → HasUndecided line budget v es
-  entry : (site : Site) (rule : Rule) (log : List Sides) → Has es (entry.Undecided site rule log) → IsSpent line budget (BreaksIn line (site, rule)) log → length log ≡ budget → HasUndecided line budget v es
+  verdict : (log : List Sides) → v ≡ Unknown log → IsSpent line budget Always log → length log ≡ budget → HasUndecided line budget v es
+  entry : (site : Site) (rule : Rule) (log : List Sides) → Has es (Undecided site rule log) → IsSpent line budget (BreaksIn line (site, rule)) log → length log ≡ budget → HasUndecided line budget v es
 
 -- under every valid selection the variant is well typed
 abbrev pub AreWellTyped : ProductLine → Type 0

@@ -1,0 +1,25 @@
+//! The law that a check of a product line without entries clears all its variants.
+//!
+//! It needs no code but to ask what a project's type keeps, and rests on four things: `unit_facts`, whose
+//! `specs/Diagnostics.antt` says that a pair of a site and a rule without an entry breaks under no valid selection;
+//! `plain_judge`, where the pairs of a project are listed node by node, so that those of a variant are among those of the line;
+//! `feature_views`, whose variants keep what a project keeps; and `plain_fj`, whose law is that a project is well typed exactly
+//! where no rule breaks in it. Typing and projection are those of `cfj_model`.
+#![tactic(auto)]
+
+ghost use Rattle.std.specs.Prelude.{ℕ, []};
+ghost use Rattle.cfj_model.specs.Projection.{projected};
+ghost use Rattle.cfj_model.specs.Selections.{Chosen};
+ghost use Rattle.cfj_model.specs.Typing.{IsWellTyped};
+ghost use Rattle.unit_facts.specs.Diagnostics.{IsChecked, IsValidFor};
+ghost use Rattle.unit_facts.specs.declared.entry.Verdict.{Verdict};
+
+use cfj_model::Project;
+
+/// A law: where a checked product line has no entry, the variant of every valid selection is well typed.
+pub fn clean_variants(project: &Project)
+    ensures { (budget : ℕ) (v : Verdict) → IsChecked project.now budget v []
+        → (s : Chosen) → IsValidFor project.now s → IsWellTyped (projected s project.now).classes }
+{
+    let _kept = project.model();
+}

@@ -11,7 +11,10 @@ use Rattle.unit_facts.specs.declared.entry.Entry.{Entry}
 use Rattle.unit_facts.specs.declared.entry.Entry.TheVariants.{Broken, Undecided}
 use Rattle.unit_facts.specs.declared.entry.Verdict.{Verdict}
 use Rattle.unit_facts.specs.declared.entry.Verdict.TheVariants.{Valid, Void, Unknown}
+use Rattle.cide_tool.specs.declared.outcome.Outcome.{Outcome}
+use Rattle.cide_tool.specs.declared.outcome.Outcome.TheVariants as outcome
 use Rattle.cide_tool.specs.Checks.{AreWellTyped, HasBroken, HasUndecided, IsFound, findings_status}
+use Rattle.cide_tool.specs.Outcomes.{IsCheckOutcome, IsEnded}
 
 -- ---- the status
 
@@ -108,3 +111,16 @@ module _ (line : ProductLine) (budget : ℕ) (v : Verdict) (es : List Entry) (ch
     clean = λ none. both_clean (clean_entries v es (unbroken_at_zero _ _ none) (decided_at_zero _ _ none));
     decided = not_two;
   }
+
+-- Findings that are put out end a check.
+pub ended_by : (input : Known) (budget : ℕ) (old new : Known) (status : ℕ) (o : Outcome) → IsFound input budget old new status → IsEnded status o → IsCheckOutcome input budget old new o
+ended_by input budget old new status outcome.Done h e = subst (IsFound input budget old new) e h
+ended_by input budget old new status outcome.Broken h e = subst (IsFound input budget old new) e h
+ended_by input budget old new status outcome.Undecided h e = subst (IsFound input budget old new) e h
+ended_by input budget old new status (outcome.Refused line) h e = elim e [ ]
+ended_by input budget old new status (outcome.Invalid line) h e = elim e [ ]
+ended_by input budget old new status outcome.Usage h e = elim e [ ]
+ended_by input budget old new status outcome.ReadFault h e = elim e [ ]
+ended_by input budget old new status outcome.WriteFault h e = elim e [ ]
+ended_by input budget old new status outcome.NoMemory h e = elim e [ ]
+ended_by input budget old new status outcome.TooLong h e = elim e [ ]

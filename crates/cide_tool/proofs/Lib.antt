@@ -1,4 +1,4 @@
 mod BadNames
-mod ByOutcome
 mod Ending
 mod Inputs
+mod OfInput

@@ -1,8 +1,9 @@
 ghost use Rattle.std.specs.Prelude.{◌≡◌, ℕ, ◌≤◌, List, length, Some, IfOk, string_bytes};
+ghost use Rattle.std.specs.List.{list_all, list_any};
 ghost use Rattle.cfj_model.specs.Faults.{IsTextOf, projects};
 ghost use Rattle.cide_io.specs.Faults.{Rose};
-ghost use Rattle.unit_facts.specs.Diagnostics.{IsChecked, are_decided};
-ghost use Rattle.unit_facts.specs.Findings.{findings};
+ghost use Rattle.unit_facts.specs.Diagnostics.{IsChecked, is_decided_entry, is_decided_verdict};
+ghost use Rattle.unit_facts.specs.Findings.{findings, is_broken};
 ghost use Rattle.cide_tool.specs.Checks.{findings_status};
 ghost use Rattle.cide_tool.specs.Running.{most_bytes};
 ghost use Rattle.cide_tool.specs.Outcomes.{IsCheckOutcome, IsEnded};
@@ -16,24 +17,51 @@ use clean_law::clean_variants;
 use fj_parser::parse_project;
 use plain_judge::{Findings, judge_project};
 use std::alloc::{AllocError, Global};
-use unit_facts::{Verdict, decides_few_features, findings_of};
+use unit_facts::{Entry, Verdict, decides_few_features, findings_of};
 
-/// Whether the verdict and all entries are decided.
-fn are_decided(found: &Findings) -> bool
-    ensures { result ≡ are_decided found.now.verdict found.now.entries }
+/// Whether an entry is decided.
+fn is_decided_entry(entry: &Entry) -> bool
+    ensures { result ≡ is_decided_entry entry.now }
 {
-    !matches!(found.verdict, Verdict::Unknown(_))
-        && found.entries.slice().iter().all(|entry| entry.is_broken())
+    match entry {
+        Entry::Broken { .. } => true,
+        Entry::Undecided { .. } => false,
+    }
+}
+
+/// Whether a verdict is decided.
+fn is_decided_verdict(verdict: &Verdict) -> bool
+    ensures { result ≡ is_decided_verdict verdict.now }
+{
+    match verdict {
+        Verdict::Valid(_) => true,
+        Verdict::Void(_) => true,
+        Verdict::Unknown(_) => false,
+    }
+}
+
+/// Whether an entry is broken.
+fn is_any_broken(entries: &[Entry]) -> bool
+    ensures { result ≡ list_any is_broken entries.now }
+{
+    entries.iter().any(|entry| entry.is_broken())
+}
+
+/// Whether all entries are decided.
+fn is_each_decided(entries: &[Entry]) -> bool
+    ensures { result ≡ list_all is_decided_entry entries.now }
+{
+    entries.iter().all(is_decided_entry)
 }
 
 /// How a check ends that found this.
-fn ended(found: &Findings) -> Outcome
-    ensures { IsEnded (findings_status found.now.verdict found.now.entries) result }
+fn ended(verdict: &Verdict, entries: &[Entry]) -> Outcome
+    ensures { IsEnded (findings_status verdict.now entries.now) result }
 {
-    if found.entries.slice().iter().any(|entry| entry.is_broken()) {
+    if is_any_broken(entries) {
         return Outcome::Broken;
     }
-    if are_decided(found) {
+    if is_decided_verdict(verdict) && is_each_decided(entries) {
         Outcome::Done
     } else {
         Outcome::Undecided
@@ -84,7 +112,7 @@ fn report<O: Sink>(
         Err(_) => return Outcome::NoMemory,
     };
     match put_all(out, printed.as_bytes()) {
-        Ok(()) => ended(found),
+        Ok(()) => ended(&found.verdict, found.entries.slice()),
         Err(_) => Outcome::WriteFault,
     }
 }

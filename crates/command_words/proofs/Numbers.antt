@@ -1,8 +1,8 @@
 -- Numbers of one to five digits that `parse` refuses.
-use Rattle.std.proofs.Common.{◌≡◌, ℕ, ◌+◌, ◌*◌, ◌<◌, ◌≤◌, ◌^◌, ◌&&◌, ap, ap₂, false, true, List, [], ◌∷◌, length, None, Err, Result, arith, refl, sym, inl, inr}
+use Rattle.std.proofs.Common.{◌≡◌, ℕ, ◌<◌, ◌^◌, ◌&&◌, ap, ap₂, false, true, List, length, None, Err, Result, arith, refl, sym, inl, inr}
 use Rattle.std.specs.List.{list_all}
 use Rattle.std.specs.Char.{is_ascii_digit}
-use Rattle.std.specs.Prelude.{Bool, nat_le, cond, Option, Some}
+use Rattle.std.specs.Prelude.{nat_le, cond, Some}
 use Rattle.std.specs.Str.Parse.{ParsesUnsigned, digits_value}
 use Rattle.std.proofs.lemmas.Bool.{and_parts, and_right, cases_lt, leb-true, le-leb, lt-leb}
 use Rattle.std.proofs.lemmas.Str.Parse.{IsDigitsTest, numerals_by_value, parse_digits}

@@ -1,4 +1,4 @@
-use Rattle.std.proofs.Common.{rules, arith}
+use Rattle.std.proofs.Common.{rules}
 use Rattle.command_words.proofs.Numbers.{too_large}
 use Rattle.command_words.proofs.number.number_of.Goals as goal
 

@@ -7,22 +7,25 @@ ghost use Rattle.fj_symbols.specs.Views.{is_name_token, symbol_seen};
 use crate::frame::{Frame, Head};
 use crate::mode::Mode;
 use crate::reader::ExpressionReader;
-use cfj_model::{Arg, Boxed, Colors, Expr, Items};
+use cfj_model::{Arg, Colors, Expr, Items};
 use fj_symbols::{Features, Symbol};
 use std::alloc::{AllocError, Global};
 
+/// How many arguments an argument list has room for at first.
+const USUAL_ARGS: usize = 2;
+
 /// A call, or a `new`, with these arguments.
-pub(crate) fn apply(alloc: Global, head: Head, args: Items<Arg>) -> Result<Expr, AllocError>
-    ensures { IfOk result (λ x. x ≡ machine.applied head args) }
+pub(crate) fn apply(head: Head, args: Items<Arg>) -> Expr
+    ensures { result ≡ machine.applied head args }
 {
     match head {
-        Head::OfCall { slot, on, method } => Ok(Expr::Call {
+        Head::OfCall { slot, on, method } => Expr::Call {
             slot,
-            on: Boxed::new(alloc, on)?,
+            on,
             method,
             args,
-        }),
-        Head::OfNew { slot, class } => Ok(Expr::New { slot, class, args }),
+        },
+        Head::OfNew { slot, class } => Expr::New { slot, class, args },
     }
 }
 
@@ -62,13 +65,15 @@ impl ExpressionReader {
         requires room { self.old.slot + 1 < 2 ^ 16 }
         ensures { IfOk result (λ mode. moved mode self.new.frames self.new.slot ≡ machine.first_arg head self.old.frames self.old.slot (symbol_seen symbol.entry)) }
     {
-        let done = Items::of(Vec::new(alloc));
         match symbol {
             Symbol::CloseParen => {
-                let call = apply(alloc, head, done)?;
+                let call = apply(head, Items::of(Vec::new(alloc)));
                 Ok(Some(Mode::After(call)))
             }
-            _ => self.in_marks(alloc, head, done, Colors::empty(), symbol),
+            _ => {
+                let done = Items::of(Vec::with_capacity(alloc, USUAL_ARGS)?);
+                self.in_marks(alloc, head, done, Colors::empty(), symbol)
+            }
         }
     }
 

@@ -77,7 +77,7 @@ impl ExpressionReader {
             Some(Frame::InBracket) => Ok(Some(Mode::After(x))),
             Some(Frame::InArgs { head, done, colors }) => {
                 let args = with_arg(done, colors, x)?;
-                let call = apply(alloc, head, args)?;
+                let call = apply(head, args);
                 Ok(Some(Mode::After(call)))
             }
             _ => Ok(None),
@@ -144,7 +144,7 @@ impl ExpressionReader {
             Symbol::OpenParen => {
                 let head = Head::OfCall {
                     slot,
-                    on: x,
+                    on: Boxed::new(alloc, x)?,
                     method: member,
                 };
                 self.slot += 1;

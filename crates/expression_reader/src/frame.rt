@@ -1,10 +1,10 @@
-use cfj_model::{Arg, Colors, Expr, Items, Name};
+use cfj_model::{Arg, Boxed, Colors, Expr, Items, Name};
 
 /// What arguments are given to.
 #[derive(Drop)]
 pub enum Head {
     /// A call.
-    OfCall { slot: u16, on: Expr, method: Name },
+    OfCall { slot: u16, on: Boxed<Expr>, method: Name },
     /// A `new`.
     OfNew { slot: u16, class: Name },
 }

@@ -62,7 +62,7 @@ fn selected_args(
 ) -> Result<Items<Arg>, AllocError>
     ensures { IfOk result (λ kept. kept ≡ spec.selected_args selection.now args.now) }
 {
-    let mut kept = Vec::new(alloc);
+    let mut kept = Vec::with_capacity(alloc, args.len())?;
     'each: for arg in args {
         if selection.includes(arg.colors) {
             kept.push(Arg {

@@ -32,7 +32,7 @@ pub fn selected<N: Node + Drop>(
     ensures { IfOk result (λ kept. kept ≡ selected_nodes N.colors_of (N.kept_of selection.now) selection.now nodes.now) }
 {
     let nodes = nodes.slice();
-    let mut kept = Vec::new(alloc);
+    let mut kept = Vec::with_capacity(alloc, nodes.len())?;
     'nodes: for node in nodes {
         if selection.includes(node.colors()) {
             kept.push(node.kept(alloc, selection)?)?;

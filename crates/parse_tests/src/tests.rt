@@ -5,7 +5,7 @@ mod limits;
 mod methods;
 mod slow;
 
-use cfj_model::ParseFault;
+use cfj_model::{ParseFault, Project};
 use fj_parser::parse_project;
 use std::alloc::{AllocError, Global};
 
@@ -20,6 +20,15 @@ fn told(alloc: Global, text: &str) -> Result<String, AllocError> {
         Err(ParseFault::At { at, kind }) => format!(in alloc; "{at}: {kind}"),
         Err(ParseFault::NoMemory) => String::from_str(alloc, "no memory"),
     }
+}
+
+/// A project with the features that marks may name.
+fn project_of(alloc: Global) -> Result<Option<Project>, AllocError> {
+    let text: &str = "features F, G; constraint F -> !G;";
+    if text.len() > 4_194_304 {
+        return Ok(None);
+    }
+    Ok(parse_project(alloc, text.as_bytes()).ok())
 }
 
 /// A text in which a `^`, which is no part of the language, stands before the token with the first fault, and the fault's kind.

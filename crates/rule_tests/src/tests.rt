@@ -1,6 +1,8 @@
 mod declarations;
 mod expressions;
+mod look_ups;
 mod slow;
+mod slow_bodies;
 mod variants;
 
 use cfj_model::Project;

@@ -1,8 +1,7 @@
-use super::Row;
+use super::{Row, project_of};
 use cfj_model::{Member, Name, ParseFault, Project};
 use fj_parser::{
     Want, parse_class, parse_constructor, parse_expr, parse_member, parse_model, parse_name,
-    parse_project,
 };
 use std::alloc::{AllocError, Global};
 use std::test::Fail;
@@ -29,15 +28,6 @@ fn unmarked(alloc: Global, row: Row) -> Result<(String, String), AllocError> {
         format!(in alloc; "{front}{rest}")?,
         format!(in alloc; "{at}: {kind}")?,
     ))
-}
-
-/// A project with the features that marks may name.
-fn project_of(alloc: Global) -> Result<Option<Project>, AllocError> {
-    let text: &str = "features F, G;";
-    if text.len() > 4_194_304 {
-        return Ok(None);
-    }
-    Ok(parse_project(alloc, text.as_bytes()).ok())
 }
 
 const CLASSES: [Row; 9] = [

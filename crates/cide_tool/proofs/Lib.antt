@@ -2,3 +2,4 @@ mod BadNames
 mod Ending
 mod Inputs
 mod OfInput
+mod Refusals

@@ -64,6 +64,9 @@ impl Goal {
         requires room { IsRoomy (machine_seen machine.old) }
         ensures { IfOk result (λ goes. GoesFor self goes (machine_seen machine.old) (symbol_seen symbol.entry) (machine_seen machine.new)) }
     {
+        if self == Goal::Project {
+            return machine.step(alloc, symbol);
+        }
         match self.passage(machine, symbol) {
             Passage::Stops => Ok(false),
             Passage::Ends => {

@@ -12,7 +12,7 @@ ghost use Rattle.fj_symbols.specs.Views.{is_read, symbol_seen};
 
 use crate::machine::Machine;
 use crate::part::Part;
-use crate::settle::settle;
+use crate::settle::settle_waiting;
 use crate::waiting::{Refusal, Waiting};
 use cfj_model::FaultKind;
 use fj_symbols::Symbol;
@@ -99,20 +99,19 @@ pub fn accept<'a>(
 {
     // What waited stands before this token.
     let settling = machine.settles(symbol);
-    if let Some(refusal) = settle(alloc, tally, *waiting, settling)? {
+    if let Some(refusal) = settle_waiting(alloc, tally, waiting, settling)? {
         return Ok(Some(refusal));
     }
-    let left = waiting.left(settling);
     if machine.waits(symbol) {
         // No token waits but one that can stand here.
         let role = machine.role(symbol);
         part.goal.step(alloc, machine, symbol)?;
-        *waiting = left.with(role, at);
+        *waiting = waiting.with(role, at);
         return Ok(None);
     }
+    // Nothing waits on before a token that doesn't.
     if let Some(kind) = take_settled(alloc, part, machine, tally, symbol)? {
         return Ok(Some(Refusal { at, kind }));
     }
-    *waiting = Waiting::Nothing;
     Ok(None)
 }

@@ -10,6 +10,7 @@ ghost use Rattle.fj_parser.specs.Waiting.{waiting_places, waiting_roles, WaitedW
 ghost use Rattle.fj_tally.specs.Views.{tally_seen};
 ghost use Rattle.fj_symbols.specs.Views.{is_read, symbol_seen};
 
+use crate::goal::Goal;
 use crate::machine::Machine;
 use crate::part::Part;
 use crate::settle::settle_waiting;
@@ -33,25 +34,25 @@ fn misplaced(takes_name: bool, symbol: Symbol<'_>) -> FaultKind
 /// Whether the machine can go on by this token; what it steps to is of no more use.
 fn goes<'a>(
     alloc: Global,
-    part: Part<'a>,
+    goal: Goal,
     machine: &mut Machine<'a>,
     symbol: Symbol<'a>,
 ) -> Result<bool, AllocError>
     requires read { is_read (symbol_seen symbol) ≡ true }
     requires waited { WaitedWithin (machine_seen machine.old) (symbol_seen symbol) }
     requires room { IsRoomy (machine_seen machine.old) }
-    ensures { IfOk result (λ goes. goes ≡ is_some (step_for part.entry.goal machine.old.mode (machine_seen machine.old) (symbol_seen symbol.entry))) }
+    ensures { IfOk result (λ goes. goes ≡ is_some (step_for goal machine.old.mode (machine_seen machine.old) (symbol_seen symbol.entry))) }
 {
     match symbol {
-        Symbol::Id(name) => Ok(part.goal.takes(machine, name)),
-        _ => part.goal.step(alloc, machine, symbol),
+        Symbol::Id(name) => Ok(goal.takes(machine, name)),
+        _ => goal.step(alloc, machine, symbol),
     }
 }
 
 /// Goes on by a token that doesn't wait, and counts it; its fault, if it has one.
 fn take_settled<'a>(
     alloc: Global,
-    part: Part<'a>,
+    part: &Part<'a>,
     machine: &mut Machine<'a>,
     tally: &mut Tally<'a>,
     symbol: Symbol<'a>,
@@ -60,14 +61,14 @@ fn take_settled<'a>(
     requires settled { waits (machine_seen machine.old) (symbol_seen symbol) ≡ false }
     requires waited { WaitedWithin (machine_seen machine.old) (symbol_seen symbol) }
     requires room { IsRoomy (machine_seen machine.old) }
-    ensures { IfOk result (OwnOutcome (reader_of part.entry) (machine_seen machine.old) (tally_seen tally.old)
+    ensures { IfOk result (OwnOutcome (reader_of part.now) (machine_seen machine.old) (tally_seen tally.old)
         (role (machine_seen machine.old) (symbol_seen symbol.entry)) (symbol_seen symbol.entry) (machine_seen machine.new) (tally_seen tally.new)) }
 {
     let role = machine.role(symbol);
     let takes_name = part.goal.takes_name(machine);
     if let Some(broken) = tally.broken_by(alloc, role)? {
         // First of all it has to be a token that can stand here.
-        if goes(alloc, part, machine, symbol)? {
+        if goes(alloc, part.goal, machine, symbol)? {
             return Ok(Some(broken));
         }
         return Ok(Some(misplaced(takes_name, symbol)));
@@ -82,7 +83,7 @@ fn take_settled<'a>(
 /// Takes one token in, with what waited for it; the first fault, if there is one.
 pub fn accept<'a>(
     alloc: Global,
-    part: Part<'a>,
+    part: &Part<'a>,
     machine: &mut Machine<'a>,
     tally: &mut Tally<'a>,
     waiting: &mut Waiting<'a>,
@@ -91,10 +92,10 @@ pub fn accept<'a>(
 ) -> Result<Option<Refusal>, AllocError>
     requires read { is_read (symbol_seen symbol) ≡ true }
     requires waiting { waiting_roles waiting.old ≡ pending (machine_seen machine.old) }
-    requires settles { SettlesEach (reader_of part) }
-    requires reached { IsReached (reader_of part) (machine_seen machine.old) }
+    requires settles { SettlesEach (reader_of part.now) }
+    requires reached { IsReached (reader_of part.now) (machine_seen machine.old) }
     requires room { IsRoomy (machine_seen machine.old) }
-    ensures { IfOk result (Outcome (reader_of part.entry) (machine_seen machine.old) (tally_seen tally.old) (waiting_places waiting.old)
+    ensures { IfOk result (Outcome (reader_of part.now) (machine_seen machine.old) (tally_seen tally.old) (waiting_places waiting.old)
         (symbol_seen symbol.entry) at (machine_seen machine.new) (tally_seen tally.new) waiting.new) }
 {
     // What waited stands before this token.

@@ -16,7 +16,7 @@ use Rattle.fj_parser.proofs.accept.accept.Goals as goal
 
 pub returns-in-Some : goal.returns-in-Some
 returns-in-Some c =
-    waited_told c.args.part (machine_seen c.args.machine.now) (tally_seen c.args.tally.now) c.args.waiting.now (symbol_seen c.args.symbol) c.args.at (tally_seen c.settle_waiting.new.tally) c.settles-settling.result c.in_ok-refusal.field-0 c.in-Some.refusal c.settles-settling.ensures c.in-Some.is c.requires.waiting c.in_ok-refusal.ensures.counted
+    waited_told c.args.part.now (machine_seen c.args.machine.now) (tally_seen c.args.tally.now) c.args.waiting.now (symbol_seen c.args.symbol) c.args.at (tally_seen c.settle_waiting.new.tally) c.settles-settling.result c.in_ok-refusal.field-0 c.in-Some.refusal c.settles-settling.ensures c.in-Some.is c.requires.waiting c.in_ok-refusal.ensures.counted
 
 pub step-requires-clause-named : goal.step-requires-clause-named
 step-requires-clause-named c =
@@ -51,10 +51,10 @@ returns-then-waits c =
     let token = symbol_seen c.args.symbol in
     let h : Waited s t token u = waited s t w token u c.settles-settling.result c.in_ok-refusal.field-0 c.settles-settling.ensures c.in_default.is c.requires.waiting c.in_ok-refusal.ensures.counted in
     let own : waits s token ≡ true = sym c.waits.ensures ∙ c.if-waits.true in
-    let goes : step_of c.args.part s token ≡ Some n = gone c.args.part c.in_ok-step.field-0 s n token (waits_goes_for c.args.part.goal s token own) c.in_ok-step.ensures in
+    let goes : step_of c.args.part.now s token ≡ Some n = gone c.args.part.now c.in_ok-step.field-0 s n token (waits_goes_for c.args.part.now.goal s token own) c.in_ok-step.ensures in
     let once : IsOnce s n token = c.requires.settles.each c.requires.reached.tokens s n c.requires.reached.roles token c.requires.reached.ran goes in
     let left : c.settle_waiting.new.waiting ≡ waiting_left (settles s token) w = c.in_ok-refusal.ensures.left ∙ ap (λ k. waiting_left k w) c.settles-settling.ensures in
-    waiting_taken c.args.part s n t u w c.with.result token c.args.at c.requires.waiting own goes once h
+    waiting_taken c.args.part.now s n t u w c.with.result token c.args.at c.requires.waiting own goes once h
     (c.with.ensures.roles ∙ ap (λ x. waiting_roles x ++ role_seen c.role-role.result ∷ []) left ∙ ap (λ r. waiting_roles (waiting_left (settles s token) w) ++ r ∷ []) c.role-role.ensures)
     (c.with.ensures.places ∙ ap (λ x. waiting_places x ++ c.args.at ∷ []) left)
 
@@ -67,8 +67,8 @@ returns-in-Some-2 c =
     let token = symbol_seen c.args.symbol in
     let h : Waited s t token u = waited s t w token u c.settles-settling.result c.in_ok-refusal.field-0 c.settles-settling.ensures c.in_default.is c.requires.waiting c.in_ok-refusal.ensures.counted in
     let own : waits s token ≡ false = sym c.waits.ensures ∙ c.if-waits.false in
-    settled_told c.args.part s t u w token c.args.at c.in-Some-2.kind c.requires.waiting own h
-    (subst (OwnOutcome (reader_of c.args.part) s u (role s token) token (machine_seen c.take_settled.new.machine) (tally_seen c.take_settled.new.tally)) c.in-Some-2.is c.in_ok-kind.ensures)
+    settled_told c.args.part.now s t u w token c.args.at c.in-Some-2.kind c.requires.waiting own h
+    (subst (OwnOutcome (reader_of c.args.part.now) s u (role s token) token (machine_seen c.take_settled.new.machine) (tally_seen c.take_settled.new.tally)) c.in-Some-2.is c.in_ok-kind.ensures)
 
 pub returns : goal.returns
 returns c =
@@ -81,8 +81,8 @@ returns c =
     let token = symbol_seen c.args.symbol in
     let h : Waited s t token u = waited s t w token u c.settles-settling.result c.in_ok-refusal.field-0 c.settles-settling.ensures c.in_default.is c.requires.waiting c.in_ok-refusal.ensures.counted in
     let own : waits s token ≡ false = sym c.waits.ensures ∙ c.if-waits.false in
-    let taken : OwnOutcome (reader_of c.args.part) s u (role s token) token n v None = subst (OwnOutcome (reader_of c.args.part) s u (role s token) token n v) c.in_default-2.is c.in_ok-kind.ensures in
+    let taken : OwnOutcome (reader_of c.args.part.now) s u (role s token) token n v None = subst (OwnOutcome (reader_of c.args.part.now) s u (role s token) token n v) c.in_default-2.is c.in_ok-kind.ensures in
     let once : IsOnce s n token = c.requires.settles.each c.requires.reached.tokens s n c.requires.reached.roles token c.requires.reached.ran taken.goes in
     let x = c.settle_waiting.new.waiting in
     let none : x ≡ waiting.Nothing = nothing_waits s w x token c.settles-settling.result c.requires.waiting own c.settles-settling.ensures c.in_ok-refusal.ensures.left in
-    subst (λ z. IsTaken (reader_of c.args.part) s t (waiting_places w) token c.args.at n v (waiting_roles z) (waiting_places z)) (sym none) (settled_taken c.args.part s n t u v w token c.args.at c.requires.waiting own once h taken)
+    subst (λ z. IsTaken (reader_of c.args.part.now) s t (waiting_places w) token c.args.at n v (waiting_roles z) (waiting_places z)) (sym none) (settled_taken c.args.part.now s n t u v w token c.args.at c.requires.waiting own once h taken)

@@ -1,11 +1,12 @@
-ghost use Rattle.std.specs.Prelude.{◌≡◌, [], ◌∷◌, true, false, None, IfOk, is_some};
+ghost use Rattle.std.specs.Prelude.{◌≡◌, ◌&&◌, if◌then◌else◌, [], ◌∷◌, true, false, None, IfOk, is_some};
+ghost use Rattle.cfj_model.specs.Tokens.{is_reserved_word};
 ghost use Rattle.expression_reader.specs.Machine.{settled};
 ghost use Rattle.fj_parser.specs.Accepting.{AreCounted, Outcome, OwnOutcome};
 ghost use Rattle.fj_parser.specs.Machine.{pending, role, waits};
 ghost use Rattle.fj_parser.specs.MachineViews.{machine_seen, IsRoomy};
 ghost use Rattle.fj_parser.specs.GoalViews.{reader_of};
-ghost use Rattle.fj_parser.specs.Goals.{step_for};
-ghost use Rattle.fj_parser.specs.Readers.{misplaced_as, IsReached, SettlesEach};
+ghost use Rattle.fj_parser.specs.Goals.{step_for, takes_name_for};
+ghost use Rattle.fj_parser.specs.Readers.{IsReached, SettlesEach};
 ghost use Rattle.fj_parser.specs.Waiting.{waiting_places, waiting_roles, WaitedWithin};
 ghost use Rattle.fj_tally.specs.Views.{tally_seen};
 ghost use Rattle.fj_symbols.specs.Views.{is_read, symbol_seen};
@@ -20,11 +21,18 @@ use fj_symbols::Symbol;
 use fj_tally::Tally;
 use std::alloc::{AllocError, Global};
 
-/// How a token that can't stand here is named.
-fn misplaced(takes_name: bool, symbol: Symbol<'_>) -> FaultKind
-    ensures { result ≡ misplaced_as takes_name (symbol_seen symbol.entry) }
+/// Whether a token is a reserved word where some identifier could stand.
+fn is_reserved_name(goal: Goal, machine: &Machine<'_>, symbol: Symbol<'_>) -> bool
+    ensures { result ≡ is_reserved_word (symbol_seen symbol.entry) && takes_name_for goal machine.now.mode (machine_seen machine.now) }
 {
-    if symbol.is_reserved_word() && takes_name {
+    symbol.is_reserved_word() && goal.takes_name(machine)
+}
+
+/// How a token that can't stand here is named.
+fn misplaced(reserved: bool) -> FaultKind
+    ensures { result ≡ if reserved then FaultKind.Reserved else FaultKind.Unexpected }
+{
+    if reserved {
         FaultKind::Reserved
     } else {
         FaultKind::Unexpected
@@ -65,16 +73,16 @@ fn take_settled<'a>(
         (role (machine_seen machine.old) (symbol_seen symbol.entry)) (symbol_seen symbol.entry) (machine_seen machine.new) (tally_seen tally.new)) }
 {
     let role = machine.role(symbol);
-    let takes_name = part.goal.takes_name(machine);
+    let reserved = is_reserved_name(part.goal, machine, symbol);
     if let Some(broken) = tally.broken_by(alloc, role)? {
         // First of all it has to be a token that can stand here.
         if goes(alloc, part.goal, machine, symbol)? {
             return Ok(Some(broken));
         }
-        return Ok(Some(misplaced(takes_name, symbol)));
+        return Ok(Some(misplaced(reserved)));
     }
     if !part.goal.step(alloc, machine, symbol)? {
-        return Ok(Some(misplaced(takes_name, symbol)));
+        return Ok(Some(misplaced(reserved)));
     }
     tally.count(role)?;
     Ok(None)

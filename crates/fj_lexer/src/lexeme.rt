@@ -7,6 +7,7 @@ ghost use Rattle.fj_lexer.specs.Pieces.{begins, IsBehind, IsMarkBefore, IsPiece}
 ghost use Rattle.cfj_model.specs.Characters.{IsSplit};
 ghost use Rattle.fj_lexer.specs.Kinds.{word_kind};
 
+use crate::ascii::behind_ascii_word;
 use crate::token::TokenKind;
 use cfj_model::{continues_word, is_reserved, split_first, starts_word};
 
@@ -23,7 +24,7 @@ pub struct Piece<'a> {
 fn word_rest(text: &str) -> &str
     ensures { chars result.now ≡ spec.word_rest (chars text.now) }
 {
-    let mut rest = text;
+    let mut rest = behind_ascii_word(text);
     'word: while let Some((first, after)) = split_first(rest) {
         if !continues_word(first) {
             break;

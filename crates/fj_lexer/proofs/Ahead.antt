@@ -1,10 +1,10 @@
 -- an ASCII byte is a character of its own
-use Rattle.std.proofs.Common.{◌≡◌, ℕ, ◌+◌, ◌<◌, ◌≤◌, ◌||◌, ◌==◌, true, List, ◌∷◌, ◌++◌, length, drop, get_or, refl, sym, ap, subst, ◌∙◌, arith}
+use Rattle.std.proofs.Common.{◌≡◌, ℕ, ◌+◌, ◌<◌, ◌≤◌, ◌||◌, ◌==◌, true, false, List, [], ◌∷◌, ◌++◌, length, drop, get_or, refl, sym, ap, subst, ◌∙◌, arith}
 use Rattle.std.specs.Char.{is_ascii_alphanumeric}
 use Rattle.std.specs.Prelude.{encode_utf8}
 use Rattle.std.specs.Str.{chars, IsUtf8}
-use Rattle.std.proofs.lemmas.List.{drop_more}
-use Rattle.std.proofs.lemmas.Str.{chars_past_char, IsUtf8-past_char, encode_ascii}
+use Rattle.std.proofs.lemmas.List.{drop_more, at_drop_all}
+use Rattle.std.proofs.lemmas.Str.{chars-nil, chars_past_char, IsUtf8-past_char, encode_ascii}
 use Rattle.cfj_model.specs.Lexemes.{word_rest}
 use Rattle.cfj_model.proofs.AsciiWords.{continues_ascii}
 
@@ -32,3 +32,12 @@ pub word_step : (text : List ℕ) (at c : ℕ) → IsStep text at c → c < 128 
     → word_rest (chars (drop at text)) ≡ word_rest (chars (drop (at + 1) text))
 unfolding word_rest
 word_step text at c s ascii word = rw (s.characters, continues_ascii c ascii, word) refl
+
+pub word_end : (text : List ℕ) (at c : ℕ) → IsStep text at c → c < 128 → (is_ascii_alphanumeric c || c == 95 || c == 36) ≡ false
+    → word_rest (chars (drop at text)) ≡ chars (drop at text)
+unfolding word_rest
+word_end text at c s ascii word = rw (s.characters, continues_ascii c ascii, word) refl
+
+pub word_none : (text bytes : List ℕ) (at : ℕ) → bytes ≡ text → length bytes ≤ at → word_rest (chars (drop at text)) ≡ []
+unfolding word_rest
+word_none text bytes at same past = at_drop_all (λ bs. word_rest (chars bs)) text at (subst (λ bs. length bs ≤ at) same past) ∙ ap word_rest chars-nil

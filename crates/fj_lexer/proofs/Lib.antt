@@ -3,5 +3,6 @@ pub mod Marks
 pub mod Parts
 pub mod TextEnds
 pub mod Texts
+pub mod WordBytes
 pub mod Passing
 pub mod Calls

@@ -1,27 +1,31 @@
-ghost use Rattle.std.specs.Prelude.{◌≡◌, ◌<◌, ◌≤◌, ◌||◌, ◌==◌, length};
+ghost use Rattle.std.specs.Prelude.{◌≡◌, ◌<◌, ◌||◌, ◌==◌};
 ghost use Rattle.std.specs.Bool.{OnTrue};
-ghost use Rattle.std.specs.Char.{is_ascii_alphanumeric};
-ghost use Rattle.std.specs.Str.{chars};
-ghost use Rattle.cfj_model.specs.Lexemes as spec;
+ghost use Rattle.std.specs.Char.{is_ascii_alphabetic, is_ascii_alphanumeric};
+
+// For each byte: 2 where it is an ASCII character that begins a word, 1 where it is one that only goes on a word, 0 elsewhere.
+static WORD_BYTES: [u8; 256] = *b"\
+    00000000000000000000000000000000\
+    00002000000000001111111111000000\
+    02222222222222222222222222200002\
+    02222222222222222222222222200000\
+    00000000000000000000000000000000\
+    00000000000000000000000000000000\
+    00000000000000000000000000000000\
+    00000000000000000000000000000000";
 
 /// Whether a byte is an ASCII character that goes on a word.
-fn continues_ascii(byte: u8) -> bool
+#[inline(always)]
+pub fn continues_ascii(byte: u8) -> bool
     ensures value { result ≡ (is_ascii_alphanumeric byte || byte == 95 || byte == 36) }
     ensures ascii { OnTrue result (byte < 128) }
 {
-    byte.is_ascii_alphanumeric() || byte == b'_' || byte == b'$'
+    WORD_BYTES[byte as usize] != b'0'
 }
 
-/// The text behind the ASCII characters in front that go on a word.
-///
-/// An ASCII byte is a character of its own, so nothing is decoded.
-pub fn behind_ascii_word(text: &str) -> &str
-    ensures { spec.word_rest (chars text.now) ≡ spec.word_rest (chars result.now) }
+/// Whether a byte is an ASCII character that begins a word.
+#[inline(always)]
+pub fn starts_ascii(byte: u8) -> bool
+    ensures value { result ≡ (is_ascii_alphabetic byte || byte == 95 || byte == 36) }
 {
-    let bytes = text.as_bytes();
-    let mut at = 0;
-    'word: while at < bytes.len() && continues_ascii(bytes[at]) {
-        at += 1;
-    }
-    &text[at..]
+    WORD_BYTES[byte as usize] == b'2'
 }

@@ -7,7 +7,7 @@ ghost use Rattle.fj_lexer.specs.Pieces.{begins, IsBehind, IsMarkBefore, IsPiece}
 ghost use Rattle.cfj_model.specs.Characters.{IsSplit};
 ghost use Rattle.fj_lexer.specs.Kinds.{word_kind};
 
-use crate::ascii::behind_ascii_word;
+use crate::ascii::continues_ascii;
 use crate::token::TokenKind;
 use cfj_model::{continues_word, is_reserved, split_first, starts_word};
 
@@ -20,11 +20,30 @@ pub struct Piece<'a> {
 }
 
 /// The text behind the characters that go on a word.
-#[tactic(auto, unfolding(cfj_model::specs::Lexemes::word_rest), using(crate::proofs::Texts::no_characters))]
+///
+/// An ASCII byte is a character of its own, so nothing is decoded up to the first byte that is none.
 fn word_rest(text: &str) -> &str
     ensures { chars result.now ≡ spec.word_rest (chars text.now) }
 {
-    let mut rest = behind_ascii_word(text);
+    let bytes = text.as_bytes();
+    let mut at = 0;
+    'word: while at < bytes.len() {
+        if !continues_ascii(bytes[at]) {
+            let rest = &text[at..];
+            return if bytes[at].is_ascii() { rest } else { wide_word_rest(rest) };
+        }
+        at += 1;
+    }
+    ""
+}
+
+/// The text behind the characters that go on a word, each of which is decoded.
+#[inline(never)]
+#[tactic(auto, unfolding(cfj_model::specs::Lexemes::word_rest), using(crate::proofs::Texts::no_characters))]
+fn wide_word_rest(text: &str) -> &str
+    ensures { chars result.now ≡ spec.word_rest (chars text.now) }
+{
+    let mut rest = text;
     'word: while let Some((first, after)) = split_first(rest) {
         if !continues_word(first) {
             break;

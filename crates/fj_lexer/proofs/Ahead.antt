@@ -5,6 +5,7 @@ use Rattle.std.specs.Prelude.{encode_utf8}
 use Rattle.std.specs.Str.{chars, IsUtf8}
 use Rattle.std.proofs.lemmas.List.{drop_more, at_drop_all}
 use Rattle.std.proofs.lemmas.Str.{chars-nil, chars_past_char, IsUtf8-past_char, encode_ascii}
+use Rattle.cfj_model.specs.Characters.{IsSplit}
 use Rattle.cfj_model.specs.Lexemes.{word_rest}
 use Rattle.cfj_model.proofs.AsciiWords.{continues_ascii}
 
@@ -41,3 +42,15 @@ word_end text at c s ascii word = rw (s.characters, continues_ascii c ascii, wor
 pub word_none : (text bytes : List ℕ) (at : ℕ) → bytes ≡ text → length bytes ≤ at → word_rest (chars (drop at text)) ≡ []
 unfolding word_rest
 word_none text bytes at same past = at_drop_all (λ bs. word_rest (chars bs)) text at (subst (λ bs. length bs ≤ at) same past) ∙ ap word_rest chars-nil
+
+pub split : (text bytes : List ℕ) → bytes ≡ text → IsUtf8 text → 0 < length bytes → get_or bytes 0 0 < 128 → IsSplit text (get_or bytes 0 0) (drop 1 text)
+split text bytes same u some ascii =
+    let byte = get_or bytes 0 0 in
+    let s : IsStep text 0 byte = step text bytes 0 same some u ascii in
+    let parts : text ≡ byte ∷ drop 1 text = subst (λ bs. text ≡ get_or bs 0 0 ∷ drop 1 text) (sym same) (drop_more text 0 0 (subst (λ bs. 0 < length bs) same some)) in
+    record {
+      bytes = parts ∙ ap (λ c. c ++ drop 1 text) (sym (encode_ascii byte ascii));
+      characters = s.characters;
+      shorter = let sizes = ap length parts in omega arith;
+      utf8 = s.utf8;
+    }

@@ -7,7 +7,7 @@ ghost use Rattle.fj_lexer.specs.Pieces.{begins, IsBehind, IsMarkBefore, IsPiece}
 ghost use Rattle.cfj_model.specs.Characters.{IsSplit};
 ghost use Rattle.fj_lexer.specs.Kinds.{word_kind};
 
-use crate::ascii::continues_ascii;
+use crate::ascii::{continues_ascii, starts_ascii};
 use crate::token::TokenKind;
 use cfj_model::{continues_word, is_reserved, split_first, starts_word};
 
@@ -30,7 +30,11 @@ fn word_rest(text: &str) -> &str
     'word: while at < bytes.len() {
         if !continues_ascii(bytes[at]) {
             let rest = &text[at..];
-            return if bytes[at].is_ascii() { rest } else { wide_word_rest(rest) };
+            return if bytes[at].is_ascii() {
+                rest
+            } else {
+                wide_word_rest(rest)
+            };
         }
         at += 1;
     }
@@ -61,6 +65,17 @@ fn behind(text: &str, ch: char) -> Option<&str>
     match split_first(text) {
         Some((first, rest)) if first == ch => Some(rest),
         _ => None,
+    }
+}
+
+/// Whether a word may begin with this character. Only what isn't ASCII is looked up among all characters.
+fn begins_word(first: char) -> bool
+    ensures { result ≡ names.starts_word first }
+{
+    if first.is_ascii() {
+        starts_ascii(first as u8)
+    } else {
+        starts_word(first)
     }
 }
 
@@ -103,7 +118,7 @@ pub fn first_piece<'a>(text: &'a str, first: char, after: &'a str) -> Option<Pie
     requires { IsSplit text.now first after.now }
     ensures { MatchOption result (spec.lexeme_at (chars text.now) ≡ spec.NoToken (chars text.now)) (λ p. IsPiece text.now p) }
 {
-    if starts_word(first) {
+    if begins_word(first) {
         let rest = word_rest(after);
         let word = before(text, rest);
         return Some(Piece {

@@ -19,6 +19,7 @@ pub enum Comment<'a> {
 fn is_blank(byte: u8) -> bool
     ensures { result ≡ spec.is_blank byte }
 {
+    // Most bytes are above the blanks, which one comparison tells.
     byte <= b' ' && matches!(byte, b' ' | b'\t' | b'\n' | b'\r' | 0xc)
 }
 

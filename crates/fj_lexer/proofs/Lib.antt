@@ -1,6 +1,9 @@
+pub mod Ahead
 pub mod Marks
 pub mod Parts
 pub mod TextEnds
 pub mod Texts
+pub mod Wide
+pub mod WordBytes
 pub mod Passing
 pub mod Calls

@@ -1,5 +1,5 @@
 -- What the parts of a token are while it is read.
-use Rattle.std.specs.Prelude.{◌≡◌, ℕ, Bool, false, ◌==◌, List, [], ◌∷◌, ◌++◌, encode_utf8_all}
+use Rattle.std.specs.Prelude.{◌≡◌, ℕ, Bool, false, ◌==◌, nat_lt, List, [], ◌∷◌, ◌++◌, encode_utf8_all}
 use Rattle.std.specs.Str.{chars, IsUtf8}
 use Rattle.cfj_model.specs.Lexemes.{Lexeme, Mark, Found, lexeme_at}
 use Rattle.fj_lexer.specs.declared.lexeme.Piece.{Piece}
@@ -9,6 +9,11 @@ use Rattle.fj_lexer.specs.Kinds.{kind_of, characters_of}
 abbrev pub begins : ℕ → List ℕ → Bool
 begins c [] = false
 begins c (d ∷ ds) = d == c
+
+-- whether these characters begin with an ASCII one
+abbrev pub begins_ascii : List ℕ → Bool
+begins_ascii [] = false
+begins_ascii (c ∷ cs) = nat_lt c 128
 
 -- the text is this character and the rest
 pub record IsBehind (text : List ℕ) (c : ℕ) (rest : List ℕ) : Type 0 where

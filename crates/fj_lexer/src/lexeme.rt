@@ -7,6 +7,7 @@ ghost use Rattle.fj_lexer.specs.Pieces.{begins, IsBehind, IsMarkBefore, IsPiece}
 ghost use Rattle.cfj_model.specs.Characters.{IsSplit};
 ghost use Rattle.fj_lexer.specs.Kinds.{word_kind};
 
+use crate::ascii::{continues_ascii, starts_ascii};
 use crate::token::TokenKind;
 use cfj_model::{continues_word, is_reserved, split_first, starts_word};
 
@@ -19,8 +20,31 @@ pub struct Piece<'a> {
 }
 
 /// The text behind the characters that go on a word.
-#[tactic(auto, unfolding(cfj_model::specs::Lexemes::word_rest), using(crate::proofs::Texts::no_characters))]
+///
+/// An ASCII byte is a character of its own, so nothing is decoded up to the first byte that is none.
 fn word_rest(text: &str) -> &str
+    ensures { chars result.now ≡ spec.word_rest (chars text.now) }
+{
+    let bytes = text.as_bytes();
+    let mut at = 0;
+    'word: while at < bytes.len() {
+        if !continues_ascii(bytes[at]) {
+            let rest = &text[at..];
+            return if bytes[at].is_ascii() {
+                rest
+            } else {
+                wide_word_rest(rest)
+            };
+        }
+        at += 1;
+    }
+    ""
+}
+
+/// The text behind the characters that go on a word, each of which is decoded.
+#[inline(never)]
+#[tactic(auto, unfolding(cfj_model::specs::Lexemes::word_rest), using(crate::proofs::Texts::no_characters))]
+fn wide_word_rest(text: &str) -> &str
     ensures { chars result.now ≡ spec.word_rest (chars text.now) }
 {
     let mut rest = text;
@@ -41,6 +65,17 @@ fn behind(text: &str, ch: char) -> Option<&str>
     match split_first(text) {
         Some((first, rest)) if first == ch => Some(rest),
         _ => None,
+    }
+}
+
+/// Whether a word may begin with this character. Only what isn't ASCII is looked up among all characters.
+fn begins_word(first: char) -> bool
+    ensures { result ≡ names.starts_word first }
+{
+    if first.is_ascii() {
+        starts_ascii(first as u8)
+    } else {
+        starts_word(first)
     }
 }
 
@@ -83,7 +118,7 @@ pub fn first_piece<'a>(text: &'a str, first: char, after: &'a str) -> Option<Pie
     requires { IsSplit text.now first after.now }
     ensures { MatchOption result (spec.lexeme_at (chars text.now) ≡ spec.NoToken (chars text.now)) (λ p. IsPiece text.now p) }
 {
-    if starts_word(first) {
+    if begins_word(first) {
         let rest = word_rest(after);
         let word = before(text, rest);
         return Some(Piece {

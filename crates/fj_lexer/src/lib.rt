@@ -6,6 +6,7 @@
 //! takes no memory.
 #![tactic(auto)]
 
+mod ascii;
 mod lexeme;
 mod lexer;
 mod next;

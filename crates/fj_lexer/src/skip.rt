@@ -3,6 +3,7 @@ ghost use Rattle.std.specs.Str.{chars, IsUtf8};
 ghost use Rattle.cfj_model.specs.Lexemes as spec;
 ghost use Rattle.fj_lexer.specs.Skipping.{PassesSlash, IsUnclosed, IsPassed, SkipsTo, SkipsNot};
 
+use crate::ascii::split_ascii;
 use cfj_model::split_first;
 
 /// What a slash begins.
@@ -15,10 +16,11 @@ pub enum Comment<'a> {
     NoComment,
 }
 
-fn is_blank(ch: char) -> bool
-    ensures { result ≡ spec.is_blank ch }
+fn is_blank(byte: u8) -> bool
+    ensures { result ≡ spec.is_blank byte }
 {
-    matches!(ch, ' ' | '\t' | '\n' | '\r' | '\u{c}')
+    // Most bytes are above the blanks, which one comparison tells.
+    byte <= b' ' && matches!(byte, b' ' | b'\t' | b'\n' | b'\r' | 0xc)
 }
 
 fn is_line_end(ch: char) -> bool
@@ -81,10 +83,10 @@ pub fn skip_blanks(text: &str) -> Result<&str, &str>
     ensures { MatchResult result (λ rest. SkipsTo text.now rest.now) (λ from. SkipsNot text.now from.now) }
 {
     let mut rest = text;
-    'blanks: while let Some((first, after)) = split_first(rest) {
+    'blanks: while let Some((first, after)) = split_ascii(rest) {
         if is_blank(first) {
             rest = after;
-        } else if first == '/' {
+        } else if first == b'/' {
             match behind_slash(after) {
                 Comment::Passed(behind) => rest = behind,
                 Comment::Unclosed => return Err(rest),

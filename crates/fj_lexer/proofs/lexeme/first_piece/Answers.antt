@@ -7,12 +7,12 @@ use Rattle.fj_lexer.proofs.lexeme.first_piece.Goals as goal
 
 pub before-word-requires : goal.before-word-requires
 before-word-requires c =
-    stands_end _ _ _ (word c.args.text.now c.args.first c.args.after.now c.word_rest-rest.result.now c.utf8.text c.word_rest-rest.utf8 c.requires (sym c.starts_word.ensures ∙ c.if-starts_word.true) c.word_rest-rest.ensures)
+    stands_end _ _ _ (word c.args.text.now c.args.first c.args.after.now c.word_rest-rest.result.now c.utf8.text c.word_rest-rest.utf8 c.requires (sym c.begins_word.ensures ∙ c.if-begins_word.true) c.word_rest-rest.ensures)
 
-pub returns-then-starts_word : goal.returns-then-starts_word
-returns-then-starts_word c =
+pub returns-then-begins_word : goal.returns-then-begins_word
+returns-then-begins_word c =
     let lexeme = Word (c.args.first ∷ word_run (chars c.args.after.now)) in
-    let s : Stands c.args.text.now lexeme c.word_rest-rest.result.now = word c.args.text.now c.args.first c.args.after.now c.word_rest-rest.result.now c.utf8.text c.word_rest-rest.utf8 c.requires (sym c.starts_word.ensures ∙ c.if-starts_word.true) c.word_rest-rest.ensures in
+    let s : Stands c.args.text.now lexeme c.word_rest-rest.result.now = word c.args.text.now c.args.first c.args.after.now c.word_rest-rest.result.now c.utf8.text c.word_rest-rest.utf8 c.requires (sym c.begins_word.ensures ∙ c.if-begins_word.true) c.word_rest-rest.ensures in
     let b = stands_bytes c.args.text.now lexeme c.word_rest-rest.result.now c.before-word.result.now s c.before-word.ensures in
     record {
       lexeme = lexeme;

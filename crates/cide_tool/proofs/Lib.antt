@@ -1,2 +1,5 @@
 mod BadNames
+mod Ending
 mod Inputs
+mod OfInput
+mod Refusals

@@ -1,3 +1,5 @@
+pub mod Checks
+pub mod Commands
 pub mod Lines
 pub mod Outcomes
 pub mod Running

@@ -1,9 +1,7 @@
--- What a run answers to its words and to the text of its project.
-use Rattle.std.specs.Prelude.{◌≡◌, ℕ, ◌<◌, ◌==◌, Bool, false, not, ◌&&◌, if◌then◌else◌, List, [], ◌∷◌, length, codes, Some, None, String}
+-- What a run answers to the text of its project, and to a word that names features.
+use Rattle.std.specs.Prelude.{◌≡◌, ℕ, ◌<◌, ◌==◌, Bool, if◌then◌else◌, List, [], ◌∷◌, length, codes, Some, None}
 use Rattle.std.specs.List.{list_any, slice_split}
 use Rattle.std.specs.Str.{bytes_eq}
-use Rattle.std.specs.String.{string_bytes}
-use Rattle.std.specs.declared.alloc.Global.{Global}
 use Rattle.cfj_model.specs.declared.fault.FaultKind.{FaultKind}
 use Rattle.cfj_model.specs.Faults.{IsTextOf, IsFirstFault, projects}
 use Rattle.cfj_model.specs.ProductLines.{ProductLine}
@@ -14,29 +12,6 @@ use Rattle.cide_tool.specs.Lines.{refusal_line, names_line, invalid_line}
 use Rattle.feature_model.specs.declared.names.NameFault.{NameFault}
 use Rattle.feature_model.specs.NamedSelections.{IsSpelled, IsFirstBad}
 use Rattle.variant_export.specs.Exports.{variant_text}
-
--- the word begins with `-`
-abbrev pub is_option : List ℕ → Bool
-is_option [] = false
-is_option (first ∷ rest) = first == 45
-
--- The words are `export`, the name of a project and a word that names features; neither of the two begins with `-`.
-abbrev pub is_export : List (String Global) → Bool
-is_export (command ∷ project ∷ names ∷ []) =
-    bytes_eq (string_bytes command) (codes "export")
-    && not (is_option (string_bytes project))
-    && not (is_option (string_bytes names))
-is_export _ = false
-
--- the name of the project, the second word
-abbrev pub project_name : List (String Global) → List ℕ
-project_name (command ∷ project ∷ rest) = string_bytes project
-project_name _ = []
-
--- the word that names features, the third
-abbrev pub names_word : List (String Global) → List ℕ
-names_word (command ∷ project ∷ names ∷ rest) = string_bytes names
-names_word _ = []
 
 -- the texts between the commas of such a word; `.` has none
 abbrev pub named_parts : List ℕ → List (List ℕ)
@@ -94,9 +69,9 @@ pub record IsBadName (input : Known) (names line : List ℕ) : Type 0 where
   pub told : line ≡ names_line (named_parts names) fault
 
 -- Why nothing is exported of a project that was read.
-pub data IsRefused (input : Known) (names line : List ℕ) : Type 0 where
-  no_text : IsNoText input line → IsRefused input names line
-  bad_name : IsBadName input names line → IsRefused input names line
+pub data IsUnexported (input : Known) (names line : List ℕ) : Type 0 where
+  no_text : IsNoText input line → IsUnexported input names line
+  bad_name : IsBadName input names line → IsUnexported input names line
 
 -- Under the selection that the word spells a constraint of the project is false, the first of them the one that the line tells.
 pub record IsInvalid (input : Known) (names line : List ℕ) : Type 0 where
@@ -115,4 +90,4 @@ pub record IsTooLong (input : Known) : Type 0 where
 
 -- one of the statuses that a run ends with
 abbrev pub is_status : ℕ → Bool
-is_status status = list_any (λ s. s == status) (0 ∷ (3 ∷ (4 ∷ (5 ∷ (6 ∷ (7 ∷ (8 ∷ (11 ∷ []))))))))
+is_status status = list_any (λ s. s == status) (0 ∷ (1 ∷ (2 ∷ (3 ∷ (4 ∷ (5 ∷ (6 ∷ (7 ∷ (8 ∷ (11 ∷ []))))))))))

@@ -1,42 +1,22 @@
 ghost use Rattle.std.specs.Prelude.{◌≡◌, ℕ, ◌≤◌, List, length, map, Some, IfOk, string_bytes};
-ghost use Rattle.cfj_model.specs.Faults.{IsTextOf, IsFirstFault, projects};
+ghost use Rattle.cfj_model.specs.Faults.{IsTextOf, projects};
 ghost use Rattle.cide_io.specs.Faults.{Rose};
 ghost use Rattle.feature_model.specs.NamedSelections.{IsSpelled, IsFirstBad};
-ghost use Rattle.cide_tool.specs.Lines.{refusal_line, bad_name, names_line};
+ghost use Rattle.cide_tool.specs.Lines.{bad_name, names_line};
 ghost use Rattle.cide_tool.specs.Running.{most_bytes, named_parts};
-ghost use Rattle.cide_tool.specs.Outcomes.{IsOutcome, IsInvalidAt};
+ghost use Rattle.cide_tool.specs.Outcomes.{IsExportOutcome, IsInvalidAt};
 
 use crate::input::read_input;
 use crate::names::selection_of;
 use crate::outcome::Outcome;
+use crate::refusal::refused;
 use crate::words::parts;
-use cfj_model::{FaultKind, ParseFault, Project, Selection};
+use cfj_model::{ParseFault, Project, Selection};
 use cide_io::{ReadAll, Room, Sink};
 use feature_model::NameFault;
 use fj_parser::parse_project;
 use std::alloc::{AllocError, Global};
 use variant_export::{ExportFault, export as export_to};
-
-/// The line that tells the first fault of a text.
-fn refusal(alloc: Global, at: usize, kind: &FaultKind) -> Result<String, AllocError>
-    ensures { IfOk result (λ line. string_bytes line ≡ refusal_line at kind.now) }
-{
-    format!(in alloc; "refused at {at}: {kind}\n")
-}
-
-/// What becomes of a text with a first fault. Without memory for the line there is none to say why.
-fn refused(alloc: Global, text: &[u8], names: &str, at: usize, kind: &FaultKind) -> Outcome
-    requires { IsFirstFault projects text.now at kind.now }
-    ensures told { (old : _) → IsOutcome (Some text.now) names.now old old result }
-    ensures command { ¬ (result ≡ Outcome.Usage) }
-    ensures read { ¬ (result ≡ Outcome.ReadFault) }
-    ensures write { ¬ (result ≡ Outcome.WriteFault) }
-{
-    match refusal(alloc, at, kind) {
-        Ok(line) => Outcome::Refused(line),
-        Err(_) => Outcome::NoMemory,
-    }
-}
 
 /// The line that tells the first bad name.
 fn names_refusal(alloc: Global, parts: &[&str], fault: NameFault) -> Result<String, AllocError>
@@ -75,8 +55,7 @@ fn names_refused(
     requires read { IsTextOf projects text.now project.now }
     requires parts { map (λ part. part.now) parts.now ≡ named_parts names.now }
     requires first { IsFirstBad project.now.model.features (named_parts names.now) fault }
-    ensures told { (old : _) → IsOutcome (Some text.now) names.now old old result }
-    ensures command { ¬ (result ≡ Outcome.Usage) }
+    ensures told { (old : _) → IsExportOutcome (Some text.now) names.now old old result }
     ensures read { ¬ (result ≡ Outcome.ReadFault) }
     ensures write { ¬ (result ≡ Outcome.WriteFault) }
 {
@@ -108,8 +87,7 @@ fn export_variant<O: Sink>(
 ) -> Outcome
     requires read { IsTextOf projects text.now project.now }
     requires spelled { IsSpelled project.now.model.features (named_parts names.now) selection.now }
-    ensures text { IsOutcome (Some text.now) names.now (O.held out.old) (O.held out.new) result }
-    ensures command { ¬ (result ≡ Outcome.Usage) }
+    ensures text { IsExportOutcome (Some text.now) names.now (O.held out.old) (O.held out.new) result }
     ensures read { ¬ (result ≡ Outcome.ReadFault) }
     ensures write { result ≡ Outcome.WriteFault → Rose (O.faults out.old) (O.faults out.new) }
     ensures named { O.name out.new ≡ O.name out.old }
@@ -132,8 +110,7 @@ fn export_named<O: Sink>(
     out: &mut O,
 ) -> Outcome
     requires { IsTextOf projects text.now project.now }
-    ensures text { IsOutcome (Some text.now) names.now (O.held out.old) (O.held out.new) result }
-    ensures command { ¬ (result ≡ Outcome.Usage) }
+    ensures text { IsExportOutcome (Some text.now) names.now (O.held out.old) (O.held out.new) result }
     ensures read { ¬ (result ≡ Outcome.ReadFault) }
     ensures write { result ≡ Outcome.WriteFault → Rose (O.faults out.old) (O.faults out.new) }
     ensures named { O.name out.new ≡ O.name out.old }
@@ -153,8 +130,7 @@ fn export_named<O: Sink>(
 /// Prints the variant that a text and the names in a word stand for.
 fn export_text<O: Sink>(alloc: Global, text: &[u8], names: &str, out: &mut O) -> Outcome
     requires { length text.now ≤ most_bytes }
-    ensures text { IsOutcome (Some text.now) names.now (O.held out.old) (O.held out.new) result }
-    ensures command { ¬ (result ≡ Outcome.Usage) }
+    ensures text { IsExportOutcome (Some text.now) names.now (O.held out.old) (O.held out.new) result }
     ensures read { ¬ (result ≡ Outcome.ReadFault) }
     ensures write { result ≡ Outcome.WriteFault → Rose (O.faults out.old) (O.faults out.new) }
     ensures named { O.name out.new ≡ O.name out.old }
@@ -162,7 +138,7 @@ fn export_text<O: Sink>(alloc: Global, text: &[u8], names: &str, out: &mut O) ->
 {
     match parse_project(alloc, text) {
         Ok(project) => export_named(alloc, text, names, &project, out),
-        Err(ParseFault::At { at, kind }) => refused(alloc, text, names, at, &kind),
+        Err(ParseFault::At { at, kind }) => refused(alloc, text, at, &kind),
         Err(ParseFault::NoMemory) => Outcome::NoMemory,
     }
 }
@@ -175,8 +151,7 @@ pub fn export<R: Room, O: Sink>(
     room: &mut R,
     out: &mut O,
 ) -> Outcome
-    ensures text { IsOutcome (R.input room.old name.now) names.now (O.held out.old) (O.held out.new) result }
-    ensures command { ¬ (result ≡ Outcome.Usage) }
+    ensures text { IsExportOutcome (R.input room.old name.now) names.now (O.held out.old) (O.held out.new) result }
     ensures read { result ≡ Outcome.ReadFault → Rose (R.read_faults room.old) (R.read_faults room.new) }
     ensures write { result ≡ Outcome.WriteFault → Rose (O.faults out.old) (O.faults out.new) }
     ensures named { O.name out.new ≡ O.name out.old }

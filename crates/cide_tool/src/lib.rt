@@ -8,10 +8,12 @@
 //! room tells under that name; a room that tells nothing has some such text.
 #![tactic(auto)]
 
+mod check;
 mod export;
 mod input;
 mod names;
 mod outcome;
+mod refusal;
 mod running;
 mod words;
 

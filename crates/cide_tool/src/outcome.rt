@@ -7,8 +7,12 @@ use cide_io::{Sink, put_all};
 /// How a run ended.
 #[derive(Drop)]
 pub enum Outcome {
-    /// The command is done.
+    /// The command is done; a check found nothing broken or undecided.
     Done,
+    /// A check is done, and some rule breaks.
+    Broken,
+    /// A check is done, no rule is known to break, and something is undecided.
+    Undecided,
     /// The project's text isn't in the grammar, or a name is bad; the line says which.
     Refused(String),
     /// A constraint is false under the selection; the line says which.
@@ -32,6 +36,8 @@ impl Outcome {
     {
         match self {
             Outcome::Done => 0,
+            Outcome::Broken => 1,
+            Outcome::Undecided => 2,
             Outcome::Refused(_) => 3,
             Outcome::Usage => 4,
             Outcome::ReadFault => 5,
@@ -42,12 +48,12 @@ impl Outcome {
         }
     }
 
-    /// The line that tells it; nothing where the command is done.
+    /// The line that tells it; nothing where the command is done, whatever it found.
     fn line(&self) -> &str
         ensures { result.now ≡ line_of self.now }
     {
         match self {
-            Outcome::Done => "",
+            Outcome::Done | Outcome::Broken | Outcome::Undecided => "",
             Outcome::Refused(line) => line.as_str(),
             Outcome::Invalid(line) => line.as_str(),
             Outcome::Usage => {
@@ -68,7 +74,7 @@ impl Outcome {
         ensures later { E.faults err.old ≤ E.faults err.new }
     {
         match self {
-            Outcome::Done => {}
+            Outcome::Done | Outcome::Broken | Outcome::Undecided => {}
             _ => say(err, self.line()),
         }
     }

@@ -157,6 +157,17 @@ waited s t w token u c found settling none is h =
 pub waited_within : (s : State) (t : Tally) (token : Token) (u : Tally) → Waited s t token u → WaitedWithin s token
 waited_within s t token u h = record { met = t; within = h.within }
 
+-- Behind what a token settles nothing waits, where the token itself doesn't.
+nothing_is : (x : Waiting) → waiting_roles x ≡ [] → x ≡ waiting.Nothing
+nothing_is waiting.Nothing e = refl
+nothing_is (waiting.Bracket b) e = absurd (let no : ⊥ = cc e in no)
+nothing_is (waiting.Name b n) e = absurd (let no : ⊥ = cc e in no)
+nothing_is (waiting.Closed b n x) e = absurd (let no : ⊥ = cc e in no)
+
+pub nothing_waits : (s : State) (w x : Waiting) (token : Token) (c : Settling) → waiting_roles w ≡ pending s → waits s token ≡ false → c ≡ settles s token → x ≡ waiting_left c w → x ≡ waiting.Nothing
+nothing_waits s w x token c is own settling left =
+    nothing_is x (ap waiting_roles left ∙ left_roles c w ∙ ap (λ k. expression.left k (waiting_roles w)) settling ∙ ap (expression.left (settles s token)) is ∙ nothing_left s token own)
+
 -- ---- the token
 
 nothing_more : (rs : List Role) → rs ++ [] ≡ rs

@@ -64,6 +64,23 @@ impl Goal {
         requires room { IsRoomy (machine_seen machine.old) }
         ensures { IfOk result (λ goes. GoesFor self goes (machine_seen machine.old) (symbol_seen symbol.entry) (machine_seen machine.new)) }
     {
+        if self == Goal::Project {
+            return machine.step(alloc, symbol);
+        }
+        self.step_alone(alloc, machine, symbol)
+    }
+
+    fn step_alone<'a>(
+        self,
+        alloc: Global,
+        machine: &mut Machine<'a>,
+        symbol: Symbol<'a>,
+    ) -> Result<bool, AllocError>
+        requires read { is_read (symbol_seen symbol) ≡ true }
+        requires named { names_fit_in machine.old.mode (machine_seen machine.old) (symbol_seen symbol) ≡ true }
+        requires room { IsRoomy (machine_seen machine.old) }
+        ensures { IfOk result (λ goes. GoesFor self goes (machine_seen machine.old) (symbol_seen symbol.entry) (machine_seen machine.new)) }
+    {
         match self.passage(machine, symbol) {
             Passage::Stops => Ok(false),
             Passage::Ends => {

@@ -67,7 +67,7 @@ fn fault_of(refusal: Refusal) -> ParseFault
 /// Takes one token in, or tells the first fault and its place.
 fn take<'a>(
     alloc: Global,
-    part: Part<'a>,
+    part: &Part<'a>,
     machine: &mut Machine<'a>,
     tally: &mut Tally<'a>,
     waiting: &mut Waiting<'a>,
@@ -76,12 +76,12 @@ fn take<'a>(
 ) -> Result<(), ParseFault>
     requires read { is_read (symbol_seen symbol) ≡ true }
     requires waiting { waiting_roles waiting.old ≡ pending (machine_seen machine.old) }
-    requires settles { SettlesEach (reader_of part) }
-    requires reached { IsReached (reader_of part) (machine_seen machine.old) }
+    requires settles { SettlesEach (reader_of part.now) }
+    requires reached { IsReached (reader_of part.now) (machine_seen machine.old) }
     requires room { IsRoomy (machine_seen machine.old) }
-    ensures ok { OnOk result (IsTaken (reader_of part.entry) (machine_seen machine.old) (tally_seen tally.old) (waiting_places waiting.old)
+    ensures ok { OnOk result (IsTaken (reader_of part.now) (machine_seen machine.old) (tally_seen tally.old) (waiting_places waiting.old)
         (symbol_seen symbol.entry) at (machine_seen machine.new) (tally_seen tally.new) (waiting_roles waiting.new) (waiting_places waiting.new)) }
-    ensures fault { (told : ℕ) (kind : _) → result ≡ Err (ParseFault.At told kind) → IsToldAt (reader_of part.entry) (machine_seen machine.old) (tally_seen tally.old)
+    ensures fault { (told : ℕ) (kind : _) → result ≡ Err (ParseFault.At told kind) → IsToldAt (reader_of part.now) (machine_seen machine.old) (tally_seen tally.old)
         (waiting_places waiting.old) (symbol_seen symbol.entry) at told kind }
 {
     match accept(alloc, part, machine, tally, waiting, symbol, at)? {
@@ -113,7 +113,7 @@ fn read_tokens<'a>(
         };
         take(
             alloc,
-            part,
+            &part,
             machine,
             tally,
             &mut waiting,
@@ -123,7 +123,7 @@ fn read_tokens<'a>(
     }
     take(
         alloc,
-        part,
+        &part,
         machine,
         tally,
         &mut waiting,

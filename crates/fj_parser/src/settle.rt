@@ -2,7 +2,7 @@ ghost use Rattle.std.specs.Prelude.{◌≡◌, [], ◌∷◌, true, IfOk};
 ghost use Rattle.cfj_model.specs.Roles.{opens, var_name};
 ghost use Rattle.expression_reader.specs.Machine.{settled};
 ghost use Rattle.fj_parser.specs.Accepting.{AreCounted};
-ghost use Rattle.fj_parser.specs.Waiting.{settled_role, waiting_places, waiting_roles};
+ghost use Rattle.fj_parser.specs.Waiting.{settled_role, waiting_left, waiting_places, waiting_roles};
 ghost use Rattle.fj_tally.specs.Views.{tally_seen};
 ghost use Rattle.fj_symbols.specs.Views.{is_identifier_role, role_seen};
 
@@ -102,4 +102,22 @@ pub fn settle<'a>(
         Waiting::Name(bracket, name) => count_both(alloc, tally, settling, bracket, name),
         Waiting::Closed(bracket, name, _) => count_both(alloc, tally, settling, bracket, name),
     }
+}
+
+/// Settles what waits, where the next token settles it: then nothing waits any more. The first fault, if there is one.
+pub fn settle_waiting<'a>(
+    alloc: Global,
+    tally: &mut Tally<'a>,
+    waiting: &mut Waiting<'a>,
+    settling: Settling,
+) -> Result<Option<Refusal>, AllocError>
+    ensures counted { IfOk result (AreCounted (tally_seen tally.old) (settled settling (waiting_roles waiting.old)) (waiting_places waiting.old) (tally_seen tally.new)) }
+    ensures left { IfOk result (λ _. waiting.new ≡ waiting_left settling waiting.old) }
+{
+    if settling == Settling::Stays {
+        return Ok(None);
+    }
+    let found = settle(alloc, tally, *waiting, settling)?;
+    *waiting = Waiting::Nothing;
+    Ok(found)
 }

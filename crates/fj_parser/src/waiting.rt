@@ -2,7 +2,6 @@ ghost use Rattle.std.specs.Prelude.{◌≡◌, true};
 ghost use Rattle.cfj_model.specs.Names.{is_identifier};
 
 use cfj_model::FaultKind;
-use expression_reader::Settling;
 use fj_symbols::Role;
 
 /// A bracket where an expression begins: how many constructs are open with it, and its place.
@@ -35,18 +34,8 @@ pub enum Waiting<'a> {
 
 impl<'a> Waiting<'a> {
     ghost use Rattle.std.specs.Prelude.{◌∷◌, [], ◌++◌};
-    ghost use Rattle.fj_parser.specs.Waiting.{may_wait, waiting_left, waiting_places, waiting_roles};
+    ghost use Rattle.fj_parser.specs.Waiting.{may_wait, waiting_places, waiting_roles};
     ghost use Rattle.fj_symbols.specs.Views.{is_identifier_role, role_seen};
-
-    /// What waits on.
-    pub fn left(self, settling: Settling) -> Waiting<'a>
-        ensures { result ≡ waiting_left settling self.entry }
-    {
-        match settling {
-            Settling::Stays => self,
-            _ => Waiting::Nothing,
-        }
-    }
 
     /// These and one more token, in the role that it has in a bracket.
     pub fn with(self, role: Role<'a>, at: usize) -> Waiting<'a>

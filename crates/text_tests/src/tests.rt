@@ -319,14 +319,13 @@ const USAGE: &str = "usage: cide check|export|view|script|serve|audit|certify|ve
 
 #[test]
 fn tells_the_usage_of_other_words(rt: HostRuntime) -> Result<(), Fail> {
-    let commands: [&[&str]; 9] = [
+    let commands: [&[&str]; 8] = [
         &["check", "T", "."],
         &["export"],
         &["export", "T"],
         &["export", "T", ".", "."],
         &["export", "-x", "."],
         &["export", "T", "-x"],
-        &["export", "T", "-"],
         &[],
         &["exports", "T", "."],
     ];

@@ -136,7 +136,7 @@ fn refuses_marks_at_their_first_fault(rt: HostRuntime) -> Result<(), Fail> {
 }
 
 /// Names of which one is bad, and the line that tells the first.
-const BAD_NAMES: [(&str, &str); 15] = [
+const BAD_NAMES: [(&str, &str); 16] = [
     ("Foo", "refused names: NoFeature Foo"),
     ("Log,Log", "refused names: Twice Log"),
     ("Log,", "refused names: NoFeature "),
@@ -152,6 +152,8 @@ const BAD_NAMES: [(&str, &str); 15] = [
     ("this", "refused names: NoFeature this"),
     ("log", "refused names: NoFeature log"),
     (" Log", "refused names: NoFeature  Log"),
+    // a dash alone is no option
+    ("-", "refused names: NoFeature -"),
 ];
 
 #[test]

@@ -1,13 +1,18 @@
-use Rattle.std.proofs.Common.{◌≡◌, Some, None, true, ◌∙◌, ap, sym, subst}
+use Rattle.std.proofs.Common.{◌≡◌, Bool, if◌then◌else◌, Some, None, true, ◌∙◌, ap, sym, subst}
 use Rattle.cfj_model.specs.Roles.{broken_by}
 use Rattle.fj_symbols.specs.Views.{is_identifier_role, symbol_seen}
-use Rattle.fj_parser.specs.Readers.{misplaced_as}
+use Rattle.cfj_model.specs.declared.fault.FaultKind.{FaultKind}
+use Rattle.cfj_model.specs.declared.fault.FaultKind.TheVariants as fault
 use Rattle.fj_parser.specs.Machine.{role}
 use Rattle.fj_parser.specs.MachineViews.{machine_seen}
 use Rattle.fj_tally.specs.Views.{tally_seen}
 use Rattle.fj_parser.proofs.Accepted.{own_broken, own_stuck, not_gone, cannot_go}
 use Rattle.fj_parser.proofs.Named.{names_fit, role_named}
 use Rattle.fj_parser.proofs.accept.take_settled.Goals as goal
+
+-- how a token that can't stand here is named
+abbrev named_so : Bool → FaultKind
+named_so reserved = if reserved then fault.Reserved else fault.Unexpected
 
 pub broken_by-requires : goal.broken_by-requires
 broken_by-requires c =
@@ -20,13 +25,13 @@ returns-then-branch c =
     let token = symbol_seen c.args.symbol in
     let breaks : broken_by t (role s token) ≡ Some c.in-Some.broken =
     ap (broken_by t) (sym c.role-role.ensures) ∙ sym c.in_ok-broken.ensures ∙ c.in-Some.is in
-    own_broken c.args.part s t token c.in-Some.broken (sym c.in_ok-goes.ensures ∙ c.if-branch.true) breaks
+    own_broken c.args.part.now s t token c.in-Some.broken (sym c.in_ok-goes.ensures ∙ c.if-branch.true) breaks
 
 pub returns-in-Some : goal.returns-in-Some
 returns-in-Some c =
     let s = machine_seen c.args.machine.now in
     let token = symbol_seen c.args.symbol in
-    own_stuck c.args.part s (tally_seen c.args.tally.now) token c.misplaced.result (cannot_go c.args.part s token (sym c.in_ok-goes.ensures ∙ c.if-branch.false)) (c.misplaced.ensures ∙ ap (λ b. misplaced_as b token) c.takes_name-takes_name.ensures)
+    own_stuck c.args.part.now s (tally_seen c.args.tally.now) token c.misplaced.result (cannot_go c.args.part.now s token (sym c.in_ok-goes.ensures ∙ c.if-branch.false)) (c.misplaced.ensures ∙ ap named_so c.is_reserved_name-reserved.ensures)
 
 pub step-requires-clause-named : goal.step-requires-clause-named
 step-requires-clause-named c =
@@ -40,4 +45,4 @@ pub returns-then-not-branch : goal.returns-then-not-branch
 returns-then-not-branch c =
     let s = machine_seen c.args.machine.now in
     let token = symbol_seen c.args.symbol in
-    own_stuck c.args.part s (tally_seen c.args.tally.now) token c.misplaced-then-not-branch.result (not_gone c.args.part _ s _ token c.if-not-branch.true c.in_ok-step.ensures) (c.misplaced-then-not-branch.ensures ∙ ap (λ b. misplaced_as b token) c.takes_name-takes_name.ensures)
+    own_stuck c.args.part.now s (tally_seen c.args.tally.now) token c.misplaced-then-not-branch.result (not_gone c.args.part.now _ s _ token c.if-not-branch.true c.in_ok-step.ensures) (c.misplaced-then-not-branch.ensures ∙ ap named_so c.is_reserved_name-reserved.ensures)

@@ -47,9 +47,10 @@ has_any (x ∷ xs) k (suc j, e) = or_right (eq k x) (list_any (eq k) xs) (has_an
 
 -- a pair is among those of the set where its parts are found
 pub looked_up : (pairs : List Pair) (keys : List PairParts) (q : PairParts) (p : Pair) (b : Bool) → IsSetOf pairs keys → seen_pair q ≡ pair_parts p → b ≡ list_any (eq q) keys → IsTrue b ↔ Has pairs p
-looked_up pairs keys q p b set same is =
-    (λ h. parts_had pairs p (subst (Has (map pair_parts pairs)) same ((set (seen_pair q)).0 (any_had keys q (sym is ∙ h)))),
-     λ h. is ∙ has_any keys q ((set (seen_pair q)).1 (subst (Has (map pair_parts pairs)) (sym same) (has_parts pairs p h))))
+looked_up pairs keys q p b set same is = (
+  λ h. parts_had pairs p (subst (Has (map pair_parts pairs)) same ((set (seen_pair q)).0 (any_had keys q (sym is ∙ h)))),
+  λ h. is ∙ has_any keys q ((set (seen_pair q)).1 (subst (Has (map pair_parts pairs)) (sym same) (has_parts pairs p h))),
+)
 
 -- ---- a set that is filled
 
@@ -78,12 +79,16 @@ put_in pairs keys k p set same x = go (list_any (eq k) keys) refl
   where
     seens : List (SiteParts × Rule)
     seens = map seen_pair keys
+
     parts : List (SiteParts × Rule)
     parts = map pair_parts pairs
+
     last : map pair_parts (pairs ++ p ∷ []) ≡ parts ++ seen_pair k ∷ []
     last = map-append pair_parts pairs p ∙ ap (λ z. parts ++ z ∷ []) (sym same)
+
     back : {Y : Type 0} → (Y ↔ Has (parts ++ seen_pair k ∷ []) x) → Y ↔ Has (map pair_parts (pairs ++ p ∷ [])) x
     back {Y = Y} h = subst (λ zs. Y ↔ Has zs x) (sym last) h
+
     go : (b : Bool) → list_any (eq k) keys ≡ b → Has (map seen_pair (cond b keys (keys ++ k ∷ []))) x ↔ Has (map pair_parts (pairs ++ p ∷ [])) x
     go true e = back (λ h. has_left parts (seen_pair k ∷ []) x ((set x).0 h), λ h. last_had seens parts (seen_pair k) x (any_had keys k e) ((set x).1) h)
     go false e =

@@ -1,7 +1,8 @@
 #!/usr/bin/env bash
 # Times `cide export` on projects of a quarter, half and the whole of the largest size, and beside it a run of Python that
 # reads the same file, splits it into words and writes them back: first without features, then with 128 of them, of which half
-# are selected, then with methods too. Each time is the best of so many runs: export.sh [RUNS]. Where strace is there, it also counts the reads and writes
+# are selected, then with methods too, and at last with a constraint that excludes every selection, where an export ends once the
+# project is read. Each time is the best of so many runs: export.sh [RUNS]. Where strace is there, it also counts the reads and writes
 # that the system sees.
 # Ends with status 1 where the whole takes more than five times the quarter, or longer than Python, or where there are more
 # writes than one for each 4 KiB of output and ten, or more reads than one for each 16 KiB of input and ten.
@@ -11,10 +12,11 @@ set -eu
 
 python_words='import sys; text = open(sys.argv[1], encoding="utf-8").read(); sys.stdout.write(" ".join(text.split()))'
 
-# a number of classes, which is a size, with so many features, under these names; with methods where a fourth word stands
+# a number of classes, which is a size, with so many features, under these names; with methods where a fourth word stands, and only
+# read where a fifth does
 measure() {
     local file=$work/project.$1
-    python3 "$top/bench/make_project.py" "$1" "$(($1 * 4096))" "$2" ${4:+"$4"} >"$file"
+    python3 "$top/bench/make_project.py" "$1" "$(($1 * 4096))" "$2" ${4:+"$4"} ${5:+"$5"} >"$file"
     times[$1]=$(best_of "$program" export "$file" "$3")
     python_times[$1]=$(best_of python3 -c "$python_words" "$file")
     printf '%5d classes, %3d features, %8d bytes: export %7d us, python %7d us\n' \
@@ -36,9 +38,9 @@ count_calls() {
     check "one write for each 4 KiB, and ten" "$(calls write "$file" "$1")" $(($(stat -c %s "$work/written") / 4096 + 11))
 }
 
-# the three sizes with so many features, under these names; with methods where a third word stands
+# the three sizes with so many features, under these names; with methods where a third word stands, and only read where a fourth does
 measure_sizes() {
-    for classes in 256 512 1024; do measure "$classes" "$1" "$2" ${3:+"$3"}; done
+    for classes in 256 512 1024; do measure "$classes" "$1" "$2" ${3:+"$3"} ${4:+"$4"}; done
     check "the whole takes at most 5 times the quarter" "${times[1024]}" $((5 * times[256]))
     check "the whole takes at most what python takes" "${times[1024]}" "${python_times[1024]}"
 }
@@ -52,4 +54,5 @@ measure_sizes 128 "$half"
 count_calls "$half"
 measure_sizes 128 "$half" methods
 count_calls "$half"
+measure_sizes 128 "$half" methods void
 exit "$failed"

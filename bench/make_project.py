@@ -1,8 +1,9 @@
-"""Writes a project of so many classes and at most so many bytes: make_project.py CLASSES BYTES [FEATURES [METHODS]] > FILE.
+"""Writes a project of so many classes and at most so many bytes: make_project.py CLASSES BYTES [FEATURES [METHODS [VOID]]] > FILE.
 
 Classes come in pairs: one with fields of its own, and one that hands those on to it and adds as many more. With features,
 each field, parameter, sent name, assignment, method and argument is marked, in turn with each feature. With METHODS, which is
-any word, each class has a method for each of its fields, whose body accesses, calls, makes and casts.
+any word, each class has a method for each of its fields, whose body accesses, calls, makes and casts. With VOID, which is any word
+too, a constraint excludes every selection, so that an export ends once the project is read.
 """
 
 import sys
@@ -62,6 +63,8 @@ def main():
     methods = len(sys.argv) > 4
     pairs = classes // 2
     line = f"features {', '.join(f'F{i}' for i in range(features))};\n" if features else ""
+    if len(sys.argv) > 5:
+        line += "constraint false;\n"
     each = (most - len(line)) // pairs
     sys.stdout.write(line)
     sys.stdout.write("".join(widest_pair(number, each, features, methods) for number in range(pairs)))

@@ -12,7 +12,7 @@ best_of() {
     local best="" began took
     for _ in $(seq "$runs"); do
         began=$(date +%s%N)
-        "$@" >"$work/written"
+        "$@" >"$work/written" 2>"$work/said" || true
         took=$((($(date +%s%N) - began) / 1000))
         if [ -z "$best" ] || [ "$took" -lt "$best" ]; then best=$took; fi
     done

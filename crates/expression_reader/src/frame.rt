@@ -4,9 +4,16 @@ use cfj_model::{Arg, Boxed, Colors, Expr, Items, Name};
 #[derive(Drop)]
 pub enum Head {
     /// A call.
-    OfCall { slot: u16, on: Boxed<Expr>, method: Name },
+    OfCall {
+        slot: u16,
+        on: Boxed<Expr>,
+        method: Name,
+    },
     /// A `new`.
-    OfNew { slot: u16, class: Name },
+    OfNew {
+        slot: u16,
+        class: Name,
+    },
 }
 
 /// What is open round the expression that is read.

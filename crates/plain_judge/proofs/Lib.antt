@@ -4,9 +4,11 @@ pub mod Considering
 pub mod Denying
 pub mod Growing
 pub mod Limits
+pub mod LookedUp
 pub mod Mirroring
 pub mod Mirrors
 pub mod Places
 pub mod ProjectPairs
+pub mod SameParts
 pub mod Sought
 pub mod Spending

@@ -2,6 +2,7 @@ pub mod BodySites
 pub mod Concluding
 pub mod Denials
 pub mod Order
+pub mod PairParts
 pub mod Pairs
 pub mod Questions
 pub mod Searching

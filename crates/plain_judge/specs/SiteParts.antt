@@ -2,9 +2,9 @@
 use Rattle.std.specs.Prelude.{ℕ, List, []}
 use Rattle.cfj_model.specs.declared.site.Site.{Site}
 use Rattle.cfj_model.specs.declared.site.Site.TheVariants as site
-use Rattle.plain_judge.specs.declared.same_sites.Kind.{Kind}
-use Rattle.plain_judge.specs.declared.same_sites.Kind.TheVariants as kind
-use Rattle.plain_judge.specs.declared.same_sites.Parts.{Parts}
+use Rattle.plain_judge.specs.declared.site_parts.Kind.{Kind}
+use Rattle.plain_judge.specs.declared.site_parts.Kind.TheVariants as kind
+use Rattle.plain_judge.specs.declared.site_parts.Parts.{Parts}
 
 pub record SiteParts : Type 0 where
   pub kind : Kind

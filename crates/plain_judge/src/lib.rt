@@ -5,6 +5,7 @@
 #![tactic(auto)]
 
 mod body;
+mod breaks;
 mod denials;
 mod entries;
 mod judge;
@@ -12,8 +13,8 @@ mod nodes;
 mod order;
 mod pairs;
 mod question;
-mod same_sites;
 mod search;
+mod site_parts;
 mod site_rules;
 
 pub use judge::{Findings, judge_project};

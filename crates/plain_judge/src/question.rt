@@ -1,8 +1,7 @@
-ghost use Rattle.std.specs.Prelude.{◌≡◌, ◌↔◌, IsTrue, IfOk, map};
-ghost use Rattle.cfj_model.specs.UnitClauses.{Has};
+ghost use Rattle.std.specs.Prelude.{◌≡◌, IfOk, OnOk, map};
 ghost use Rattle.plain_judge.specs.Questions as spec;
 
-use crate::same_sites::same_site;
+use crate::breaks::Breaks;
 use cfj_model::{Rule, Selection, Site};
 use std::alloc::{AllocError, Global};
 
@@ -17,24 +16,12 @@ pub struct Question {
     pub answer: Option<Selection>,
 }
 
-/// Whether the pair of the site and the rule is among these.
-fn is_among(pairs: &[(Site, Rule)], site: &Site, rule: Rule) -> bool
-    ensures { IsTrue result ↔ Has pairs.now (site.now, rule) }
-{
-    'each: for pair in pairs {
-        if pair.1 == rule && same_site(&pair.0, site) {
-            return true;
-        }
-    }
-    false
-}
-
 impl Question {
     /// Takes a selection as its answer, if it has none and its pair is among those that break in the variant of the selection.
-    fn consider(&mut self, breaks: &[(Site, Rule)], selection: Selection)
+    fn consider(&mut self, breaks: &Breaks<'_>, selection: Selection)
         ensures { spec.IsConsidered breaks.now selection self.old self.new }
     {
-        if self.answer.is_none() && is_among(breaks, &self.site, self.rule) {
+        if self.answer.is_none() && breaks.has(&self.site, self.rule) {
             self.answer = Some(selection);
         }
     }
@@ -56,12 +43,19 @@ pub fn questions_of(alloc: Global, pairs: Vec<(Site, Rule)>) -> Result<Vec<Quest
 }
 
 /// Every question considers a selection.
-pub fn consider_all(questions: &mut [Question], breaks: &[(Site, Rule)], selection: Selection)
-    ensures { spec.AreConsidered breaks.now selection questions.old questions.new }
+pub fn consider_all(
+    alloc: Global,
+    questions: &mut [Question],
+    breaks: &[(Site, Rule)],
+    selection: Selection,
+) -> Result<(), AllocError>
+    ensures { OnOk result (spec.AreConsidered breaks.now selection questions.old questions.new) }
 {
+    let broken = Breaks::of(alloc, breaks)?;
     'each: for question in questions.iter_mut() {
-        question.consider(breaks, selection);
+        question.consider(&broken, selection);
     }
+    Ok(())
 }
 
 /// Whether every question has an answer.

@@ -59,7 +59,7 @@ impl Search {
         }
         let variant = feature_views::project(alloc, project, &selection)?;
         let breaks = every_break(alloc, &variant)?;
-        consider_all(&mut self.questions, &breaks, selection);
+        consider_all(alloc, &mut self.questions, &breaks, selection)?;
         Ok(())
     }
 

@@ -49,7 +49,7 @@ returns c =
       questions =
           subst (AreConsidered breaks s c.args.self.now.questions.items) (sym written)
           (subst (λ (bs : List Pair). AreConsidered bs s c.args.self.now.questions.items c.consider_all.new.questions) c.deref.ensures.value
-          (subst (λ (qs : List Question). AreConsidered c.deref.result.now s qs c.consider_all.new.questions) (c.deref_mut.ensures.value ∙ ap (λ v. v.items) was.questions) c.consider_all.ensures));
+          (subst (λ (qs : List Question). AreConsidered c.deref.result.now s qs c.consider_all.new.questions) (c.deref_mut.ensures.value ∙ ap (λ v. v.items) was.questions) c.in_ok-consider_all.ensures));
       verdict = was.verdict;
       log = was.log;
     }

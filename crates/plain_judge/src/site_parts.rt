@@ -1,10 +1,10 @@
-ghost use Rattle.std.specs.Prelude.{◌≡◌, [], IsTrue, ◌↔◌};
+ghost use Rattle.std.specs.Prelude.{◌≡◌, []};
 ghost use Rattle.plain_judge.specs.SiteParts.{class_parts, parts_of, seen};
 
 use cfj_model::Site;
 
 /// What a site is of.
-#[derive(Clone, Copy, PartialEq, Eq)]
+#[derive(Clone, Copy, PartialEq, Eq, Hash)]
 pub enum Kind {
     Model,
     Class,
@@ -19,18 +19,20 @@ pub enum Kind {
 }
 
 /// The parts of a site, with no text and 0 for those that its kind lacks.
-#[derive(Clone, Copy)]
+///
+/// Numbers stand before texts, so that they are compared first.
+#[derive(Clone, Copy, PartialEq, Eq, Hash)]
 pub struct Parts<'a> {
     /// What it is of.
     pub kind: Kind,
-    /// The class's name.
-    pub class: &'a str,
-    /// The name of the member.
-    pub member: &'a str,
     /// How many members of this kind and name stand before it.
     pub alt: u16,
     /// The number of the node.
     pub slot: u16,
+    /// The class's name.
+    pub class: &'a str,
+    /// The name of the member.
+    pub member: &'a str,
 }
 
 impl<'a> Parts<'a> {
@@ -47,7 +49,8 @@ impl<'a> Parts<'a> {
     }
 }
 
-fn read_parts(site: &Site) -> Parts<'_>
+/// The parts of a site.
+pub fn read_parts(site: &Site) -> Parts<'_>
     ensures { seen result ≡ parts_of site.now }
 {
     match site {
@@ -86,30 +89,4 @@ fn read_parts(site: &Site) -> Parts<'_>
             slot: *slot,
         },
     }
-}
-
-/// Whether the parts of two sites are the same.
-fn same_parts(one: Parts<'_>, two: Parts<'_>) -> bool
-    ensures { IsTrue result ↔ (seen one.entry ≡ seen two.entry) }
-{
-    if one.kind != two.kind {
-        return false;
-    }
-    if one.class != two.class {
-        return false;
-    }
-    if one.member != two.member {
-        return false;
-    }
-    if one.alt != two.alt {
-        return false;
-    }
-    one.slot == two.slot
-}
-
-/// Whether two sites are the same.
-pub fn same_site(site: &Site, other: &Site) -> bool
-    ensures { IsTrue result ↔ (site.now ≡ other.now) }
-{
-    same_parts(read_parts(site), read_parts(other))
 }

@@ -1,5 +1,5 @@
 -- What findings that are checked show by their status.
-use Rattle.std.proofs.Common.{◌≡◌, ℕ, zero, suc, ◌^◌, ◌≤◌, Bool, true, false, if◌then◌else◌, List, [], ◌∷◌, length, slice_get, Some, refl, sym, ap, subst, ◌∙◌}
+use Rattle.std.proofs.Common.{◌≡◌, ℕ, suc, ◌^◌, ◌≤◌, Bool, true, false, if◌then◌else◌, List, [], ◌∷◌, length, Some, refl, ap, subst, ◌∙◌}
 use Rattle.std.specs.List.{list_all, list_any}
 use Rattle.cfj_model.specs.Faults.{IsTextOf, projects}
 use Rattle.cfj_model.specs.Judging.{Pair}
@@ -111,6 +111,10 @@ module _ (line : ProductLine) (budget : ℕ) (v : Verdict) (es : List Entry) (ch
     clean = λ none. both_clean (clean_entries v es (unbroken_at_zero _ _ none) (decided_at_zero _ _ none));
     decided = not_two;
   }
+
+-- Bytes that are put out are those of the text that they come from.
+pub put_out : (old new : Known) (bytes text findings : List ℕ) → new ≡ appended old bytes → bytes ≡ text → text ≡ findings → new ≡ appended old findings
+put_out old new bytes text findings put same told = put ∙ ap (appended old) (same ∙ told)
 
 -- Findings that are put out end a check.
 pub ended_by : (input : Known) (budget : ℕ) (old new : Known) (status : ℕ) (o : Outcome) → IsFound input budget old new status → IsEnded status o → IsCheckOutcome input budget old new o

@@ -1,5 +1,5 @@
 -- What a check of a project comes to.
-use Rattle.std.specs.Prelude.{◌≡◌, ℕ, ◌^◌, ◌≤◌, Bool, if◌then◌else◌, List, [], length}
+use Rattle.std.specs.Prelude.{◌≡◌, ℕ, ◌^◌, ◌≤◌, if◌then◌else◌, List, [], length}
 use Rattle.std.specs.List.{list_any}
 use Rattle.cfj_model.specs.Faults.{IsTextOf, projects}
 use Rattle.cfj_model.specs.ProductLines.{ProductLine}

@@ -1,11 +1,12 @@
 //! The commands of the program, over any room and any two sinks.
 //!
 //! [`run`] takes the words that follow the program's name, does what they ask, and gives the status that the program
-//! ends with. It rests on `cide_io` for its ends, on `fj_parser` for reading, on `feature_model` and `feature_views` for the
-//! variant, and on `fj_printer` for printing. Work comes in a fixed order: the words, the project's text, its length, its
+//! ends with. It rests on `command_words` for what they ask, on `cide_io` for its ends, and on `fj_parser` for reading. A check
+//! rests on `plain_judge` for what is found, on `unit_facts` for its text, and on `clean_law` for what no finding means; an
+//! export on `feature_model` and `variant_export`. Work comes in a fixed order: the words, the project's text, its length, its
 //! grammar, the names of features, and then the command. Each status but that for want of memory has a cause which the
-//! contract names, and each but 0 has one line on the second sink. What a status says of a project's text holds of what the
-//! room tells under that name; a room that tells nothing has some such text.
+//! contract names, and each but 0, 1 and 2 has one line on the second sink. What a status says of a project's text holds of
+//! what the room tells under that name; a room that tells nothing has some such text.
 #![tactic(auto)]
 
 mod check;

@@ -1,26 +1,26 @@
--- A reserved word is looked for among those of its length.
-use Rattle.std.proofs.Common.{◌≡◌, ℕ, ◌==◌, Bool, true, false, List, [], ◌∷◌, length, ap, ◌∙◌}
+-- A reserved word is looked for among those that begin as it does.
+use Rattle.std.proofs.Common.{◌≡◌, ℕ, ◌==◌, Bool, true, false, List, [], ◌∷◌, ap, ◌∙◌}
 use Rattle.std.specs.List.{filter, list_any}
 use Rattle.std.specs.Str.{bytes_eq}
 use Rattle.std.proofs.lemmas.Bool.{eq-eqb}
 use Rattle.std.proofs.lemmas.Map.Views.{any-filter_same}
 use Rattle.std.proofs.lemmas.Slice.Eq.{bytes_eq-Decides}
-use Rattle.cfj_model.specs.Names.{reserved_words, is_among, is_reserved}
+use Rattle.cfj_model.specs.Names.{first_byte, reserved_words, is_among, is_reserved}
 
-abbrev is_long : ℕ → List ℕ → Bool
-is_long n word = length word == n
+abbrev begins : ℕ → List ℕ → Bool
+begins c word = first_byte word == c
 
-pub among_long : (n : ℕ) (text : List ℕ) → length text ≡ n → is_among (filter (is_long n) reserved_words) text ≡ is_reserved text
+pub among_those : (c : ℕ) (text : List ℕ) → first_byte text ≡ c → is_among (filter (begins c) reserved_words) text ≡ is_reserved text
 unfolding is_reserved
-among_long n text e =
-    any-filter_same (λ word. bytes_eq word text) (is_long n) true (λ word t. eq-eqb (length word) n (ap length ((bytes_eq-Decides word text).0 t) ∙ e)) reserved_words
+among_those c text e =
+    any-filter_same (λ word. bytes_eq word text) (begins c) true (λ word t. eq-eqb (first_byte word) c (ap first_byte ((bytes_eq-Decides word text).0 t) ∙ e)) reserved_words
 
--- whether a reserved word has this length
-abbrev pub is_word_length : ℕ → Bool
-is_word_length n = list_any (λ k. n == k) (1 ∷ (2 ∷ (3 ∷ (4 ∷ (5 ∷ (6 ∷ (7 ∷ (8 ∷ (9 ∷ (10 ∷ (12 ∷ [])))))))))))
+-- whether a reserved word begins with this byte
+abbrev pub begins_word : ℕ → Bool
+begins_word c = list_any (λ k. c == k) (95 ∷ (97 ∷ (98 ∷ (99 ∷ (100 ∷ (101 ∷ (102 ∷ (103 ∷ (105 ∷ (108 ∷ (110 ∷ (112 ∷ (114 ∷ (115 ∷ (116 ∷ (118 ∷ (119 ∷ [])))))))))))))))))
 
-pub of_no_length : (text : List ℕ) → is_word_length (length text) ≡ false → is_reserved text ≡ false
+pub of_no_byte : (text : List ℕ) → begins_word (first_byte text) ≡ false → is_reserved text ≡ false
 unfolding is_reserved
-of_no_length text e =
-    any-filter_same (λ word. bytes_eq word text) (λ word. is_word_length (length word)) false
-    (λ word t. ap (λ w. is_word_length (length w)) ((bytes_eq-Decides word text).0 t) ∙ e) reserved_words
+of_no_byte text e =
+    any-filter_same (λ word. bytes_eq word text) (λ word. begins_word (first_byte word)) false
+    (λ word t. ap (λ w. begins_word (first_byte w)) ((bytes_eq-Decides word text).0 t) ∙ e) reserved_words

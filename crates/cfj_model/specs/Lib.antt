@@ -21,6 +21,7 @@ pub mod Roles
 pub mod Selections
 pub mod Sides
 pub mod Sites
+pub mod Spellings
 pub mod Tokens
 pub mod TreeRoles
 pub mod Typing

@@ -25,6 +25,11 @@ reserved_words = codes "abstract" ∷ (codes "assert" ∷ (codes "boolean" ∷ (
 abbrev pub is_among : List (List ℕ) → List ℕ → Bool
 is_among words text = list_any (λ word. bytes_eq word text) words
 
+-- the first byte of a text, or 0
+abbrev pub first_byte : List ℕ → ℕ
+first_byte [] = 0
+first_byte (c ∷ cs) = c
+
 unfoldable pub is_reserved : List ℕ → Bool
 is_reserved text = is_among reserved_words text
 

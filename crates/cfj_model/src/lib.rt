@@ -25,8 +25,10 @@ mod name;
 mod path;
 mod project;
 mod selection;
+mod short_text;
 mod site;
 mod site_ref;
+mod spelling;
 mod text;
 
 pub use boxed::Boxed;

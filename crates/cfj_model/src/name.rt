@@ -5,6 +5,7 @@ ghost use Rattle.cfj_model.specs.Names as spec;
 
 use crate::character::split_first;
 use crate::copied::Copied;
+use crate::spelling::Spelling;
 use std::alloc::{AllocError, Global};
 use std::marker::Model;
 
@@ -17,46 +18,64 @@ fn is_among(words: &[&str], text: &str) -> bool
     words.iter().any(|word| *word == text)
 }
 
+fn first_byte(text: &str) -> u8
+    ensures { result ≡ spec.first_byte text.now }
+{
+    match text.as_bytes() {
+        [first, ..] => *first,
+        [] => 0,
+    }
+}
+
 /// Whether a text is one of Java's reserved words, which name nothing.
 pub fn is_reserved(text: &str) -> bool
     ensures { result ≡ spec.is_reserved text.now }
 {
-    // A word is compared with those of its length alone.
-    match text.len() {
-        1 => is_among(&["_"], text),
-        2 => is_among(&["do", "if"], text),
-        3 => is_among(&["for", "int", "new", "try"], text),
-        4 => is_among(
+    // A word is compared with those alone that begin as it does.
+    match first_byte(text) {
+        b'_' => is_among(&["_"], text),
+        b'a' => is_among(&["abstract", "assert"], text),
+        b'b' => is_among(&["boolean", "break", "byte"], text),
+        b'c' => is_among(
+            &["case", "catch", "char", "class", "const", "continue"],
+            text,
+        ),
+        b'd' => is_among(&["default", "do", "double"], text),
+        b'e' => is_among(&["else", "enum", "extends"], text),
+        b'f' => is_among(&["final", "finally", "float", "for", "false"], text),
+        b'g' => is_among(&["goto"], text),
+        b'i' => is_among(
             &[
-                "byte", "case", "char", "else", "enum", "goto", "long", "this", "void", "true",
-                "null",
+                "if",
+                "implements",
+                "import",
+                "instanceof",
+                "int",
+                "interface",
             ],
             text,
         ),
-        5 => is_among(
+        b'l' => is_among(&["long"], text),
+        b'n' => is_among(&["native", "new", "null"], text),
+        b'p' => is_among(&["package", "private", "protected", "public"], text),
+        b'r' => is_among(&["return"], text),
+        b's' => is_among(
             &[
-                "break", "catch", "class", "const", "final", "float", "short", "super", "throw",
-                "while", "false",
+                "short",
+                "static",
+                "strictfp",
+                "super",
+                "switch",
+                "synchronized",
             ],
             text,
         ),
-        6 => is_among(
-            &[
-                "assert", "double", "import", "native", "public", "return", "static", "switch",
-                "throws",
-            ],
+        b't' => is_among(
+            &["this", "throw", "throws", "transient", "try", "true"],
             text,
         ),
-        7 => is_among(
-            &[
-                "boolean", "default", "extends", "finally", "package", "private",
-            ],
-            text,
-        ),
-        8 => is_among(&["abstract", "continue", "strictfp", "volatile"], text),
-        9 => is_among(&["interface", "protected", "transient"], text),
-        10 => is_among(&["implements", "instanceof"], text),
-        12 => is_among(&["synchronized"], text),
+        b'v' => is_among(&["void", "volatile"], text),
+        b'w' => is_among(&["while"], text),
         _ => false,
     }
 }
@@ -108,18 +127,19 @@ fn is_name(text: &str) -> bool
 /// Contracts see it as its text. In a class or a feature model nothing but a variable is named `this`.
 #[derive(Debug, Drop)]
 pub struct Name {
-    text: String,
+    text: Spelling,
 }
 
 impl Model for Name {
-    ghost use Rattle.std.specs.Prelude.{◌≡◌, List, ℕ, true, string_bytes};
+    ghost use Rattle.std.specs.Prelude.{◌≡◌, List, ℕ, true};
     ghost use Rattle.cfj_model.specs.Names.{is_name};
+    ghost use Rattle.cfj_model.specs.Spellings.{spelling_bytes};
 
     ghost Value = { List ℕ };
 
-    ghost view = { λ n. string_bytes n.text };
+    ghost view = { λ n. spelling_bytes n.text };
 
-    ghost invariant = { λ n. is_name (string_bytes n.text) ≡ true };
+    ghost invariant = { λ n. is_name (spelling_bytes n.text) ≡ true };
 }
 
 impl Name {
@@ -131,7 +151,7 @@ impl Name {
         if !is_name(text) {
             return Ok(None);
         }
-        let text = String::from_str(alloc, text)?;
+        let text = Spelling::of(alloc, text)?;
         Ok(Some(Name { text }))
     }
 
@@ -140,7 +160,7 @@ impl Name {
         requires { spec.is_name text.now ≡ true }
         ensures { IfOk result (λ name. name ≡ text.now) }
     {
-        let text = String::from_str(alloc, text)?;
+        let text = Spelling::of(alloc, text)?;
         Ok(Name { text })
     }
 
@@ -149,14 +169,14 @@ impl Name {
         ensures value { result.now ≡ self.now }
         ensures named { IsTrue (spec.is_name self.now) }
     {
-        self.text.as_str()
+        self.text.text()
     }
 
     /// The same name, in memory of its own.
     pub fn copy(&self, alloc: Global) -> Result<Name, AllocError>
         ensures { IfOk result (λ name. name ≡ self.now) }
     {
-        let text = String::from_str(alloc, self.text.as_str())?;
+        let text = Spelling::of(alloc, self.text.text())?;
         Ok(Name { text })
     }
 }

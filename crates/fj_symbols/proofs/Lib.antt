@@ -1,1 +1,2 @@
 pub mod FeaturePlaces
+mod Marks

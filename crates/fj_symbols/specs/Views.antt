@@ -39,14 +39,9 @@ symbol_seen s.Arrow = token.Arrow
 symbol_seen s.DoubleArrow = token.DoubleArrow
 symbol_seen s.End = token.End
 
--- the last tests of `mark_token`
-abbrev pub rare_token : List ℕ → token.Token
-rare_token m =
-    if bytes_eq m (codes "!") then token.Bang
-    else (if bytes_eq m (codes "&") then token.Ampersand
-    else (if bytes_eq m (codes "|") then token.Bar
-    else (if bytes_eq m (codes "->") then token.Arrow
-    else token.DoubleArrow)))
+-- the last test of `mark_token`
+abbrev pub arrow_token : List ℕ → token.Token
+arrow_token m = if bytes_eq m (codes "->") then token.Arrow else token.DoubleArrow
 
 -- what a lexeme of this kind and text is
 abbrev pub token_read : TokenKind → List ℕ → token.Token

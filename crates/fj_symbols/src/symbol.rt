@@ -1,7 +1,7 @@
-ghost use Rattle.std.specs.Prelude.{◌≡◌, true, false};
+ghost use Rattle.std.specs.Prelude.{◌≡◌, ◌∷◌, [], true};
 ghost use Rattle.cfj_model.specs.Names.{is_reserved};
 ghost use Rattle.cfj_model.specs.Tokens.{is_reserved_word, mark_token, word_token};
-ghost use Rattle.fj_symbols.specs.Views.{rare_token, symbol_seen, token_read};
+ghost use Rattle.fj_symbols.specs.Views.{arrow_token, symbol_seen, token_read};
 
 use fj_lexer::{Token, TokenKind};
 
@@ -97,45 +97,46 @@ fn reserved_symbol(word: &str) -> Symbol<'static>
 }
 
 /// What a punctuation text is.
-#[tactic(auto, unfolding(cfj_model::specs::Tokens::mark_token))]
+#[tactic(auto, using(crate::proofs::Marks::single, crate::proofs::Marks::arrow))]
 fn mark_symbol(mark: &str) -> Symbol<'static>
     ensures { symbol_seen result ≡ mark_token mark.now }
 {
-    if mark == "{" {
-        Symbol::OpenBrace
-    } else if mark == "}" {
-        Symbol::CloseBrace
-    } else if mark == "(" {
-        Symbol::OpenParen
-    } else if mark == ")" {
-        Symbol::CloseParen
-    } else if mark == ";" {
-        Symbol::Semicolon
-    } else if mark == "," {
-        Symbol::Comma
-    } else if mark == "." {
-        Symbol::Dot
-    } else if mark == "=" {
-        Symbol::Equals
-    } else if mark == "@" {
-        Symbol::At
+    if mark.len() == 1 {
+        single_mark(mark.as_bytes()[0])
     } else {
-        rare_symbol(mark)
+        arrow(mark)
     }
 }
 
-fn rare_symbol(mark: &str) -> Symbol<'static>
-    ensures { symbol_seen result ≡ rare_token mark.now }
+/// What a punctuation text of more bytes is.
+fn arrow(mark: &str) -> Symbol<'static>
+    ensures { symbol_seen result ≡ arrow_token mark.now }
 {
-    if mark == "!" {
-        Symbol::Bang
-    } else if mark == "&" {
-        Symbol::Ampersand
-    } else if mark == "|" {
-        Symbol::Bar
-    } else if mark == "->" {
+    if mark == "->" {
         Symbol::Arrow
     } else {
         Symbol::DoubleArrow
+    }
+}
+
+/// What a punctuation text of this one byte is.
+#[tactic(auto, unfolding(cfj_model::specs::Tokens::mark_token))]
+fn single_mark(byte: u8) -> Symbol<'static>
+    ensures { symbol_seen result ≡ mark_token (byte ∷ []) }
+{
+    match byte {
+        b'{' => Symbol::OpenBrace,
+        b'}' => Symbol::CloseBrace,
+        b'(' => Symbol::OpenParen,
+        b')' => Symbol::CloseParen,
+        b';' => Symbol::Semicolon,
+        b',' => Symbol::Comma,
+        b'.' => Symbol::Dot,
+        b'=' => Symbol::Equals,
+        b'@' => Symbol::At,
+        b'!' => Symbol::Bang,
+        b'&' => Symbol::Ampersand,
+        b'|' => Symbol::Bar,
+        _ => Symbol::DoubleArrow,
     }
 }

@@ -1,40 +1,58 @@
-use Rattle.std.proofs.Common.{length, refl, sym, ◌∙◌, rules}
+use Rattle.std.proofs.Common.{ap, refl, sym, ◌∙◌, rules}
 use Rattle.std.proofs.lemmas.Bool.{ne_eqb}
-use Rattle.cfj_model.proofs.Reserved.{among_long, of_no_length}
+use Rattle.cfj_model.proofs.Reserved.{among_those, begins_word, of_no_byte}
 use Rattle.cfj_model.proofs.name.is_reserved.Goals as goal
 
-pub returns-in-1 : goal.returns-in-1
-returns-in-1 c = c.is_among.ensures ∙ among_long 1 c.args.text.now c.in-1.is
+pub returns-in-95 : goal.returns-in-95
+returns-in-95 c = c.is_among.ensures ∙ among_those 95 c.args.text.now (sym c.first_byte.ensures ∙ c.in-95.is)
 
-pub returns-in-2 : goal.returns-in-2
-returns-in-2 c = c.is_among-in-2.ensures ∙ among_long 2 c.args.text.now c.in-2.is
+pub returns-in-97 : goal.returns-in-97
+returns-in-97 c = c.is_among-in-97.ensures ∙ among_those 97 c.args.text.now (sym c.first_byte.ensures ∙ c.in-97.is)
 
-pub returns-in-3 : goal.returns-in-3
-returns-in-3 c = c.is_among-in-3.ensures ∙ among_long 3 c.args.text.now c.in-3.is
+pub returns-in-98 : goal.returns-in-98
+returns-in-98 c = c.is_among-in-98.ensures ∙ among_those 98 c.args.text.now (sym c.first_byte.ensures ∙ c.in-98.is)
 
-pub returns-in-4 : goal.returns-in-4
-returns-in-4 c = c.is_among-in-4.ensures ∙ among_long 4 c.args.text.now c.in-4.is
+pub returns-in-99 : goal.returns-in-99
+returns-in-99 c = c.is_among-in-99.ensures ∙ among_those 99 c.args.text.now (sym c.first_byte.ensures ∙ c.in-99.is)
 
-pub returns-in-5 : goal.returns-in-5
-returns-in-5 c = c.is_among-in-5.ensures ∙ among_long 5 c.args.text.now c.in-5.is
+pub returns-in-100 : goal.returns-in-100
+returns-in-100 c = c.is_among-in-100.ensures ∙ among_those 100 c.args.text.now (sym c.first_byte.ensures ∙ c.in-100.is)
 
-pub returns-in-6 : goal.returns-in-6
-returns-in-6 c = c.is_among-in-6.ensures ∙ among_long 6 c.args.text.now c.in-6.is
+pub returns-in-101 : goal.returns-in-101
+returns-in-101 c = c.is_among-in-101.ensures ∙ among_those 101 c.args.text.now (sym c.first_byte.ensures ∙ c.in-101.is)
 
-pub returns-in-7 : goal.returns-in-7
-returns-in-7 c = c.is_among-in-7.ensures ∙ among_long 7 c.args.text.now c.in-7.is
+pub returns-in-102 : goal.returns-in-102
+returns-in-102 c = c.is_among-in-102.ensures ∙ among_those 102 c.args.text.now (sym c.first_byte.ensures ∙ c.in-102.is)
 
-pub returns-in-8 : goal.returns-in-8
-returns-in-8 c = c.is_among-in-8.ensures ∙ among_long 8 c.args.text.now c.in-8.is
+pub returns-in-103 : goal.returns-in-103
+returns-in-103 c = c.is_among-in-103.ensures ∙ among_those 103 c.args.text.now (sym c.first_byte.ensures ∙ c.in-103.is)
 
-pub returns-in-9 : goal.returns-in-9
-returns-in-9 c = c.is_among-in-9.ensures ∙ among_long 9 c.args.text.now c.in-9.is
+pub returns-in-105 : goal.returns-in-105
+returns-in-105 c = c.is_among-in-105.ensures ∙ among_those 105 c.args.text.now (sym c.first_byte.ensures ∙ c.in-105.is)
 
-pub returns-in-10 : goal.returns-in-10
-returns-in-10 c = c.is_among-in-10.ensures ∙ among_long 10 c.args.text.now c.in-10.is
+pub returns-in-108 : goal.returns-in-108
+returns-in-108 c = c.is_among-in-108.ensures ∙ among_those 108 c.args.text.now (sym c.first_byte.ensures ∙ c.in-108.is)
 
-pub returns-in-12 : goal.returns-in-12
-returns-in-12 c = c.is_among-in-12.ensures ∙ among_long 12 c.args.text.now c.in-12.is
+pub returns-in-110 : goal.returns-in-110
+returns-in-110 c = c.is_among-in-110.ensures ∙ among_those 110 c.args.text.now (sym c.first_byte.ensures ∙ c.in-110.is)
+
+pub returns-in-112 : goal.returns-in-112
+returns-in-112 c = c.is_among-in-112.ensures ∙ among_those 112 c.args.text.now (sym c.first_byte.ensures ∙ c.in-112.is)
+
+pub returns-in-114 : goal.returns-in-114
+returns-in-114 c = c.is_among-in-114.ensures ∙ among_those 114 c.args.text.now (sym c.first_byte.ensures ∙ c.in-114.is)
+
+pub returns-in-115 : goal.returns-in-115
+returns-in-115 c = c.is_among-in-115.ensures ∙ among_those 115 c.args.text.now (sym c.first_byte.ensures ∙ c.in-115.is)
+
+pub returns-in-116 : goal.returns-in-116
+returns-in-116 c = c.is_among-in-116.ensures ∙ among_those 116 c.args.text.now (sym c.first_byte.ensures ∙ c.in-116.is)
+
+pub returns-in-118 : goal.returns-in-118
+returns-in-118 c = c.is_among-in-118.ensures ∙ among_those 118 c.args.text.now (sym c.first_byte.ensures ∙ c.in-118.is)
+
+pub returns-in-119 : goal.returns-in-119
+returns-in-119 c = c.is_among-in-119.ensures ∙ among_those 119 c.args.text.now (sym c.first_byte.ensures ∙ c.in-119.is)
 
 pub returns-in_default : goal.returns-in_default
-returns-in_default c = sym (of_no_length c.args.text.now (rw (ne_eqb (length c.args.text.now) 1 (λ e. search rules), ne_eqb (length c.args.text.now) 2 (λ e. search rules), ne_eqb (length c.args.text.now) 3 (λ e. search rules), ne_eqb (length c.args.text.now) 4 (λ e. search rules), ne_eqb (length c.args.text.now) 5 (λ e. search rules), ne_eqb (length c.args.text.now) 6 (λ e. search rules), ne_eqb (length c.args.text.now) 7 (λ e. search rules), ne_eqb (length c.args.text.now) 8 (λ e. search rules), ne_eqb (length c.args.text.now) 9 (λ e. search rules), ne_eqb (length c.args.text.now) 10 (λ e. search rules), ne_eqb (length c.args.text.now) 12 (λ e. search rules)) refl))
+returns-in_default c = sym (of_no_byte c.args.text.now (ap begins_word (sym c.first_byte.ensures) ∙ rw (ne_eqb c.first_byte.result 95 (λ e. search rules), ne_eqb c.first_byte.result 97 (λ e. search rules), ne_eqb c.first_byte.result 98 (λ e. search rules), ne_eqb c.first_byte.result 99 (λ e. search rules), ne_eqb c.first_byte.result 100 (λ e. search rules), ne_eqb c.first_byte.result 101 (λ e. search rules), ne_eqb c.first_byte.result 102 (λ e. search rules), ne_eqb c.first_byte.result 103 (λ e. search rules), ne_eqb c.first_byte.result 105 (λ e. search rules), ne_eqb c.first_byte.result 108 (λ e. search rules), ne_eqb c.first_byte.result 110 (λ e. search rules), ne_eqb c.first_byte.result 112 (λ e. search rules), ne_eqb c.first_byte.result 114 (λ e. search rules), ne_eqb c.first_byte.result 115 (λ e. search rules), ne_eqb c.first_byte.result 116 (λ e. search rules), ne_eqb c.first_byte.result 118 (λ e. search rules), ne_eqb c.first_byte.result 119 (λ e. search rules)) refl))

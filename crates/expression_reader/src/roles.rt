@@ -64,6 +64,7 @@ impl ExpressionReader {
     }
 
     /// The role of the next token; where it waits, that of a bracket's.
+    #[inline(always)]
     pub fn role<'a>(&self, symbol: Symbol<'a>) -> Role<'a>
         ensures { role_seen result ≡ machine.role (reader_seen self.now) (symbol_seen symbol.entry) }
     {

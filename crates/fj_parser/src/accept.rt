@@ -57,7 +57,7 @@ fn goes<'a>(
     }
 }
 
-/// Goes on by a token that doesn't wait, and counts it; its fault, if it has one.
+/// Goes on by a token that doesn't wait, and counts it; its fault, if it has one, behind which nothing is said of either.
 fn take_settled<'a>(
     alloc: Global,
     part: &Part<'a>,
@@ -74,7 +74,7 @@ fn take_settled<'a>(
 {
     let role = machine.role(symbol);
     let reserved = is_reserved_name(part.goal, machine, symbol);
-    if let Some(broken) = tally.broken_by(alloc, role)? {
+    if let Some(broken) = tally.admit(alloc, role)? {
         // First of all it has to be a token that can stand here.
         if goes(alloc, part.goal, machine, symbol)? {
             return Ok(Some(broken));
@@ -84,7 +84,6 @@ fn take_settled<'a>(
     if !part.goal.step(alloc, machine, symbol)? {
         return Ok(Some(misplaced(reserved)));
     }
-    tally.count(role)?;
     Ok(None)
 }
 

@@ -53,6 +53,7 @@ impl Goal {
     }
 
     /// Goes on by one token; `false` where no text of this kind can.
+    #[inline(always)]
     pub fn step<'a>(
         self,
         alloc: Global,
@@ -70,6 +71,7 @@ impl Goal {
         self.step_alone(alloc, machine, symbol)
     }
 
+    #[inline(never)]
     fn step_alone<'a>(
         self,
         alloc: Global,

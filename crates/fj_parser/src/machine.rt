@@ -121,6 +121,7 @@ impl<'a> Machine<'a> {
     }
 
     /// What a token would be here; where it waits, what it is in a bracket.
+    #[inline(always)]
     pub fn role(&self, symbol: Symbol<'a>) -> Role<'a>
         ensures { role_seen result ≡ spec.role (machine_seen self.now) (symbol_seen symbol.entry) }
     {

@@ -6,7 +6,7 @@ use crate::goal::Goal;
 use crate::machine::{Machine, NO_NAME};
 use crate::mode::Mode;
 use cfj_model::{FeatureModel, Name};
-use fj_symbols::{Features, Role};
+use fj_symbols::Features;
 use fj_tally::Tally;
 use std::alloc::{AllocError, Global};
 
@@ -104,7 +104,7 @@ impl<'a> Part<'a> {
     {
         let mut tally = Tally::new(alloc);
         'each: for item in self.features {
-            tally.count(Role::FeatureName(item.text()))?;
+            tally.count_feature(item.text())?;
         }
         Ok(tally)
     }

@@ -24,6 +24,7 @@ fn name_role<'a>(mode: Mode, name: &'a str) -> Role<'a>
 }
 
 /// What a token is behind what was read last, outside of formulas and expressions.
+#[inline(always)]
 pub fn role_of<'a>(mode: Mode, symbol: Symbol<'a>) -> Role<'a>
     ensures { role_seen result ≡ token_role mode (symbol_seen symbol.entry) }
 {

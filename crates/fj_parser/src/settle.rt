@@ -22,10 +22,9 @@ fn count<'a>(
     requires { is_identifier_role (role_seen role) ≡ true }
     ensures { IfOk result (AreCounted (tally_seen tally.old) (role_seen role.entry ∷ []) (at ∷ []) (tally_seen tally.new)) }
 {
-    if let Some(kind) = tally.broken_by(alloc, role)? {
+    if let Some(kind) = tally.admit(alloc, role)? {
         return Ok(Some(Refusal { at, kind }));
     }
-    tally.count(role)?;
     Ok(None)
 }
 

@@ -1,11 +1,10 @@
 -- A set of texts, as the list of its names.
-use Rattle.std.proofs.Common.{◌≡◌, ℕ, false, ◌||◌, cond, List, [], ◌∷◌, ◌++◌, map, refl, sym, ap, ◌∙◌}
+use Rattle.std.proofs.Common.{◌≡◌, ℕ, ◌||◌, List, [], ◌∷◌, map, refl, sym, ap, ◌∙◌}
 use Rattle.std.specs.Borrow.{Bor}
 use Rattle.std.specs.List.{list_any}
 use Rattle.std.specs.Str.{bytes_eq}
 use Rattle.std.proofs.lemmas.Slice.Eq.{bytes_eq-Decides}
 use Rattle.std.proofs.lemmas.Bool.Decides.{same_from_decides}
-use Rattle.indexmap.specs.IndexSet.{insert_key}
 use Rattle.cfj_model.specs.ProductLines.{has}
 
 pub bytes_eq-sym : (a b : List ℕ) → bytes_eq a b ≡ bytes_eq b a
@@ -17,11 +16,3 @@ bytes_eq-sym a b =
 pub has-map : (keys : List (Bor (List ℕ))) (name : List ℕ) → list_any (λ k. bytes_eq name k.now) keys ≡ has (map (λ k. k.now) keys) name
 has-map [] name = refl
 has-map (k ∷ keys) name = ap (λ b. b || list_any (λ k. bytes_eq name k.now) keys) (bytes_eq-sym name k.now) ∙ ap (λ b. bytes_eq k.now name || b) (has-map keys name)
-
-map-append : (keys : List (Bor (List ℕ))) (k : Bor (List ℕ)) → map (λ k. k.now) (keys ++ k ∷ []) ≡ map (λ k. k.now) keys ++ k.now ∷ []
-map-append [] k = refl
-map-append (x ∷ keys) k = ap (λ w. x.now ∷ w) (map-append keys k)
-
--- a name that isn't there goes last
-pub insert_key-new : (keys : List (Bor (List ℕ))) (k : Bor (List ℕ)) → has (map (λ k. k.now) keys) k.now ≡ false → map (λ k. k.now) (insert_key (λ x y. bytes_eq x.now y.now) keys k) ≡ map (λ k. k.now) keys ++ k.now ∷ []
-insert_key-new keys k h = ap (λ b. map (λ k. k.now) (cond b keys (keys ++ k ∷ []))) (has-map keys k.now ∙ h) ∙ map-append keys k

@@ -1,4 +1,4 @@
-ghost use Rattle.std.specs.Prelude.{◌≡◌, [], ◌∷◌, ◌++◌, false, OnOk, length};
+ghost use Rattle.std.specs.Prelude.{◌≡◌, [], ◌∷◌, ◌++◌, if◌then◌else◌, not, IfOk, length};
 ghost use Rattle.cfj_model.specs.ProductLines.{has};
 
 use indexmap::IndexSet;
@@ -43,13 +43,16 @@ impl<'a> Met<'a> {
         self.names.contains(name)
     }
 
-    /// Adds a name that wasn't met.
-    pub fn add(&mut self, name: &'a str) -> Result<(), AllocError>
-        requires { has self.old name.now ≡ false }
-        ensures { OnOk result (self.new ≡ self.old ++ name.now ∷ []) }
+    /// Adds a name behind the others, where it wasn't met; whether it wasn't.
+    ///
+    /// # Errors
+    ///
+    /// There is no memory for it.
+    pub fn add(&mut self, name: &'a str) -> Result<bool, AllocError>
+        ensures fresh { IfOk result (λ fresh. fresh ≡ not (has self.old name.now)) }
+        ensures added { IfOk result (λ fresh. self.new ≡ if fresh then self.old ++ name.now ∷ [] else self.old) }
     {
-        self.names.insert(name)?;
-        Ok(())
+        Ok(self.names.insert(name)?)
     }
 
     /// Takes out all names; the room that they took stays for others.

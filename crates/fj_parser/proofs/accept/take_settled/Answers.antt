@@ -1,11 +1,11 @@
 use Rattle.std.proofs.Common.{◌≡◌, Bool, if◌then◌else◌, Some, None, true, ◌∙◌, ap, sym, subst}
 use Rattle.cfj_model.specs.Roles.{broken_by}
-use Rattle.fj_symbols.specs.Views.{is_identifier_role, symbol_seen}
+use Rattle.fj_symbols.specs.Views.{is_identifier_role, role_seen, symbol_seen}
 use Rattle.cfj_model.specs.declared.fault.FaultKind.{FaultKind}
 use Rattle.cfj_model.specs.declared.fault.FaultKind.TheVariants as fault
 use Rattle.fj_parser.specs.Machine.{role}
 use Rattle.fj_parser.specs.MachineViews.{machine_seen}
-use Rattle.fj_tally.specs.Views.{tally_seen}
+use Rattle.fj_tally.specs.Views.{tally_seen, Admits}
 use Rattle.fj_parser.proofs.Accepted.{own_broken, own_stuck, not_gone, cannot_go}
 use Rattle.fj_parser.proofs.Named.{names_fit, role_named}
 use Rattle.fj_parser.proofs.accept.take_settled.Goals as goal
@@ -14,8 +14,8 @@ use Rattle.fj_parser.proofs.accept.take_settled.Goals as goal
 abbrev named_so : Bool → FaultKind
 named_so reserved = if reserved then fault.Reserved else fault.Unexpected
 
-pub broken_by-requires : goal.broken_by-requires
-broken_by-requires c =
+pub admit-requires : goal.admit-requires
+admit-requires c =
     subst (λ r. is_identifier_role r ≡ true) (sym c.role-role.ensures) (role_named (machine_seen c.args.machine.now) (symbol_seen c.args.symbol) c.requires.read)
 
 pub returns-then-branch : goal.returns-then-branch
@@ -23,8 +23,9 @@ returns-then-branch c =
     let s = machine_seen c.args.machine.now in
     let t = tally_seen c.args.tally.now in
     let token = symbol_seen c.args.symbol in
-    let breaks : broken_by t (role s token) ≡ Some c.in-Some.broken =
-    ap (broken_by t) (sym c.role-role.ensures) ∙ sym c.in_ok-broken.ensures ∙ c.in-Some.is in
+    let told : Admits t (role_seen c.role-role.result) (tally_seen c.admit.new.self) (Some c.in-Some.broken) =
+    subst (Admits t (role_seen c.role-role.result) (tally_seen c.admit.new.self)) c.in-Some.is c.in_ok-broken.ensures in
+    let breaks : broken_by t (role s token) ≡ Some c.in-Some.broken = ap (broken_by t) (sym c.role-role.ensures) ∙ told in
     own_broken c.args.part.now s t token c.in-Some.broken (sym c.in_ok-goes.ensures ∙ c.if-branch.true) breaks
 
 pub returns-in-Some : goal.returns-in-Some
@@ -38,7 +39,9 @@ step-requires-clause-named c =
     let s = machine_seen c.args.machine.now in
     let t = tally_seen c.args.tally.now in
     let token = symbol_seen c.args.symbol in
-    let fine : broken_by t (role s token) ≡ None = ap (broken_by t) (sym c.role-role.ensures) ∙ sym c.in_ok-broken.ensures ∙ c.in_default.is in
+    let counts : Admits t (role_seen c.role-role.result) (tally_seen c.admit.new.self) None =
+    subst (Admits t (role_seen c.role-role.result) (tally_seen c.admit.new.self)) c.in_default.is c.in_ok-broken.ensures in
+    let fine : broken_by t (role s token) ≡ None = ap (broken_by t) (sym c.role-role.ensures) ∙ counts.0 in
     names_fit s token t c.requires.read c.requires.waited fine
 
 pub returns-then-not-branch : goal.returns-then-not-branch

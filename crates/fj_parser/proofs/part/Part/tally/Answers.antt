@@ -5,8 +5,8 @@ use Rattle.cfj_model.specs.Roles.{broken_by, feature_name}
 use Rattle.fj_parser.proofs.PartFeatures.{feature_fits}
 use Rattle.fj_parser.proofs.part.Part.tally.Goals as goal
 
-pub count-requires : goal.count-requires
-count-requires c =
+pub count_feature-requires : goal.count_feature-requires
+count_feature-requires c =
     let names = c.args.self.features.now in
     let i = c.each.item-index in
     let there : slice_get names i ≡ Some c.item-item.result = slice_get_read names (length names) i c.item-item.result refl c.each-test.true c.item-item.is in

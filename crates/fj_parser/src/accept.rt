@@ -74,10 +74,10 @@ fn take_settled<'a>(
 {
     let role = machine.role(symbol);
     let reserved = is_reserved_name(part.goal, machine, symbol);
-    if let Some(broken) = tally.admit(alloc, role)? {
+    if !tally.admit(role)? {
         // First of all it has to be a token that can stand here.
         if goes(alloc, part.goal, machine, symbol)? {
-            return Ok(Some(broken));
+            return Ok(Some(tally.fault(alloc, role)?));
         }
         return Ok(Some(misplaced(reserved)));
     }

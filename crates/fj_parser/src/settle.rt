@@ -22,10 +22,11 @@ fn count<'a>(
     requires { is_identifier_role (role_seen role) ≡ true }
     ensures { IfOk result (AreCounted (tally_seen tally.old) (role_seen role.entry ∷ []) (at ∷ []) (tally_seen tally.new)) }
 {
-    if let Some(kind) = tally.admit(alloc, role)? {
-        return Ok(Some(Refusal { at, kind }));
+    if tally.admit(role)? {
+        return Ok(None);
     }
-    Ok(None)
+    let kind = tally.fault(alloc, role)?;
+    Ok(Some(Refusal { at, kind }))
 }
 
 /// The role of the bracket, by what becomes of it.

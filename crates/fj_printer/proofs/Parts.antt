@@ -1,24 +1,102 @@
--- The texts of a class, its constructor and a method, cut where the printer's calls cut them.
-use Rattle.std.proofs.Common.{◌≡◌, refl, ℕ, ◌==◌, false, List, [], ◌∷◌, ◌++◌, length, codes}
+-- The texts of what is printed of a class, its constructor and a method, cut where the printer's calls cut them.
+use Rattle.std.proofs.Common.{◌≡◌, refl, sym, ap, ◌∙◌, ℕ, ◌==◌, true, false, List, [], ◌∷◌, ◌++◌, length, codes}
+use Rattle.std.specs.List.{filter}
 use Rattle.std.proofs.lemmas.List.{append_assoc}
+use Rattle.cfj_model.specs.declared.class.Field.{Field}
+use Rattle.cfj_model.specs.declared.class.Param.{Param}
+use Rattle.cfj_model.specs.declared.class.Sent.{Sent}
 use Rattle.cfj_model.specs.declared.class.Class.{Class}
 use Rattle.cfj_model.specs.declared.class.Constructor.{Constructor}
 use Rattle.cfj_model.specs.declared.class.Method.{Method}
 use Rattle.cfj_model.specs.Print.{line_end, texts, joined, field_text, param_text, sent_text, assign_text, ctor_text, expr_text, method_text, class_text, name_text, features_text}
+use Rattle.cfj_model.specs.Projection.{is_present, bare_field, bare_param, bare_sent, projected_class, projected_ctor}
+use Rattle.cfj_model.specs.Selections.{Chosen}
+use Rattle.feature_views.specs.Selected.{selected_nodes, selected_method}
+use Rattle.feature_views.proofs.Presence.{ctor_is, class_is}
+use Rattle.fj_printer.specs.declared.showing.Showing.{Showing}
+use Rattle.fj_printer.specs.declared.showing.Showing.TheVariants as showing
 use Rattle.fj_printer.specs.Parts.{class_head_text, ctor_head_text, method_head_text}
+use Rattle.fj_printer.specs.Shown.{names, shows, shown_fields, shown_params, shown_sents, shown_methods, shown_expr, shown_ctor, shown_method, shown_method_text, shown_class}
+use Rattle.fj_printer.proofs.Lists.{all_kept, texts-map, joined-map}
 
 module _ (features : List (List ℕ)) where
-  pub class_parts : (k : Class) → class_text features k ≡ class_head_text features k ++ (texts (field_text features) k.fields ++ (ctor_text features k.name k.ctor ++ (texts (method_text features) k.methods ++ (codes "}" ++ line_end))))
+  parts_of_class : (k : Class) → class_text features k ≡ class_head_text features k ++ (texts (field_text features) k.fields ++ (ctor_text features k.name k.ctor ++ (texts (method_text features) k.methods ++ (codes "}" ++ line_end))))
   unfolding class_text
-  class_parts k = simp append_assoc
+  parts_of_class k = simp append_assoc
 
-  pub ctor_parts : (name : List ℕ) (c : Constructor) → ctor_text features name c ≡ ctor_head_text name ++ (joined (param_text features) c.params ++ (codes ") { super(" ++ (joined (sent_text features) c.sends ++ (codes ");" ++ (texts (assign_text features) c.assigns ++ (codes " }" ++ line_end))))))
+  parts_of_ctor : (name : List ℕ) (c : Constructor) → ctor_text features name c ≡ ctor_head_text name ++ (joined (param_text features) c.params ++ (codes ") { super(" ++ (joined (sent_text features) c.sends ++ (codes ");" ++ (texts (assign_text features) c.assigns ++ (codes " }" ++ line_end))))))
   unfolding ctor_text
-  ctor_parts name c = simp append_assoc
+  parts_of_ctor name c = simp append_assoc
 
-  pub method_parts : (m : Method) → method_text features m ≡ method_head_text features m ++ (joined (param_text features) m.params ++ (codes ") { return " ++ (expr_text features m.body ++ (codes "; }" ++ line_end))))
+  parts_of_method : (m : Method) → method_text features m ≡ method_head_text features m ++ (joined (param_text features) m.params ++ (codes ") { return " ++ (expr_text features m.body ++ (codes "; }" ++ line_end))))
   unfolding method_text
-  method_parts m = simp append_assoc
+  parts_of_method m = simp append_assoc
+
+-- the parts of a constructor and a method that are printed
+abbrev ctor_pieces : Showing → List ℕ → Constructor → List ℕ
+ctor_pieces view name c =
+    ctor_head_text name
+    ++ (joined (param_text (names view)) (shown_params view c.params)
+    ++ (codes ") { super("
+    ++ (joined (sent_text (names view)) (shown_sents view c.sends)
+    ++ (codes ");" ++ (texts (assign_text (names view)) (shown_sents view c.assigns) ++ (codes " }" ++ line_end))))))
+
+pub ctor_parts : (view : Showing) (name : List ℕ) (c : Constructor) → ctor_text (names view) name (shown_ctor view c) ≡ ctor_pieces view name c
+ctor_parts (showing.Marked features) name c =
+    let params = all_kept c.params in
+    let sends = all_kept c.sends in
+    let assigns = all_kept c.assigns in
+    rw (params, sends, assigns) (parts_of_ctor features.now name c)
+ctor_parts (showing.Selected selection) name c =
+    let s = selection.now in
+    let params = joined-map (param_text []) bare_param (filter (λ (p : Param). is_present s p.colors) c.params) in
+    let sends = joined-map (sent_text []) bare_sent (filter (λ (a : Sent). is_present s a.colors) c.sends) in
+    let assigns = texts-map (assign_text []) bare_sent (filter (λ (a : Sent). is_present s a.colors) c.assigns) in
+    parts_of_ctor [] name (shown_ctor (showing.Selected selection) c)
+    ∙ ap (λ w. ctor_head_text name ++ (w ++ (codes ") { super(" ++ (joined (sent_text []) (selected_nodes (λ (a : Sent). a.colors) bare_sent s c.sends) ++ (codes ");" ++ (texts (assign_text []) (selected_nodes (λ (a : Sent). a.colors) bare_sent s c.assigns) ++ (codes " }" ++ line_end))))))) params
+    ∙ ap (λ w. ctor_head_text name ++ (joined (param_text []) (filter (λ (p : Param). is_present s p.colors) c.params) ++ (codes ") { super(" ++ (w ++ (codes ");" ++ (texts (assign_text []) (selected_nodes (λ (a : Sent). a.colors) bare_sent s c.assigns) ++ (codes " }" ++ line_end))))))) sends
+    ∙ ap (λ w. ctor_head_text name ++ (joined (param_text []) (filter (λ (p : Param). is_present s p.colors) c.params) ++ (codes ") { super(" ++ (joined (sent_text []) (filter (λ (a : Sent). is_present s a.colors) c.sends) ++ (codes ");" ++ (w ++ (codes " }" ++ line_end))))))) assigns
+
+pub method_parts : (view : Showing) (m : Method) → shown_method_text view m ≡ method_head_text (names view) m ++ (joined (param_text (names view)) (shown_params view m.params) ++ (codes ") { return " ++ (expr_text (names view) (shown_expr view m.body) ++ (codes "; }" ++ line_end))))
+method_parts (showing.Marked features) m = let params = all_kept m.params in rw params (parts_of_method features.now m)
+method_parts (showing.Selected selection) m =
+    let s = selection.now in
+    parts_of_method [] (selected_method s m)
+    ∙ ap (λ w. method_head_text [] m ++ (w ++ (codes ") { return " ++ (expr_text [] (shown_expr (showing.Selected selection) m.body) ++ (codes "; }" ++ line_end)))))
+    (joined-map (param_text []) bare_param (filter (λ (p : Param). is_present s p.colors) m.params))
+
+-- a present class by its selected nodes
+selected_class : (s : Chosen) (k : Class) → is_present s k.colors ≡ true →
+    record {
+      name = k.name;
+      colors = 0;
+      parent = k.parent;
+      fields = selected_nodes (λ (f : Field). f.colors) bare_field s k.fields;
+      ctor =
+        record {
+          params = selected_nodes (λ (p : Param). p.colors) bare_param s k.ctor.params;
+          sends = selected_nodes (λ (a : Sent). a.colors) bare_sent s k.ctor.sends;
+          assigns = selected_nodes (λ (a : Sent). a.colors) bare_sent s k.ctor.assigns;
+        };
+      methods = selected_nodes (λ (m : Method). m.colors) (selected_method s) s k.methods;
+    }
+    ≡ projected_class s k
+selected_class s k here = class_is s k _ _ _ _ _ _ here refl refl refl refl (ctor_is s k.colors k.ctor _ _ _ here refl refl refl) refl
+
+pub class_parts : (view : Showing) (k : Class) → shows view k.colors ≡ true → class_text (names view) (shown_class view k) ≡ class_head_text (names view) k ++ (texts (field_text (names view)) (shown_fields view k.fields) ++ (ctor_text (names view) k.name (shown_ctor view k.ctor) ++ (texts (shown_method_text view) (shown_methods view k.methods) ++ (codes "}" ++ line_end))))
+class_parts (showing.Marked features) k here =
+    let fields = all_kept k.fields in
+    let methods = all_kept k.methods in
+    rw (fields, methods) (parts_of_class features.now k)
+class_parts (showing.Selected selection) k here =
+    let s = selection.now in
+    let ctor : List ℕ = ctor_text [] k.name (shown_ctor (showing.Selected selection) k.ctor) in
+    ap (class_text []) (sym (selected_class s k here))
+    ∙ parts_of_class [] _
+    ∙ ap (λ w. class_head_text [] k ++ (w ++ (ctor ++ (texts (method_text []) (selected_nodes (λ (m : Method). m.colors) (selected_method s) s k.methods) ++ (codes "}" ++ line_end)))))
+    (texts-map (field_text []) bare_field (filter (λ (f : Field). is_present s f.colors) k.fields))
+    ∙ ap (λ w. class_head_text [] k ++ (texts (field_text []) (filter (λ (f : Field). is_present s f.colors) k.fields) ++ (ctor ++ (w ++ (codes "}" ++ line_end)))))
+    (texts-map (method_text []) (selected_method s) (filter (λ (m : Method). is_present s m.colors) k.methods))
 
 -- the feature line, where there are features
 pub line_of_some : (features : List (List ℕ)) → (length features == 0) ≡ false → features_text features ≡ codes "features " ++ (joined name_text features ++ (codes ";" ++ line_end))

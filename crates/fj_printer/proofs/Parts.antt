@@ -1,5 +1,5 @@
--- The texts of what is printed of a class, its constructor and a method, cut where the printer's calls cut them.
-use Rattle.std.proofs.Common.{◌≡◌, refl, sym, ap, ◌∙◌, ℕ, ◌==◌, true, false, List, [], ◌∷◌, ◌++◌, length, codes}
+-- The texts of what is printed of a project's classes, of a class, its constructor and a method, cut where the printer's calls cut them.
+use Rattle.std.proofs.Common.{◌≡◌, refl, sym, ap, ◌∙◌, ℕ, Bor, ◌==◌, true, false, List, [], ◌∷◌, ◌++◌, length, codes}
 use Rattle.std.specs.List.{filter}
 use Rattle.std.proofs.lemmas.List.{append_assoc}
 use Rattle.cfj_model.specs.declared.class.Field.{Field}
@@ -8,15 +8,16 @@ use Rattle.cfj_model.specs.declared.class.Sent.{Sent}
 use Rattle.cfj_model.specs.declared.class.Class.{Class}
 use Rattle.cfj_model.specs.declared.class.Constructor.{Constructor}
 use Rattle.cfj_model.specs.declared.class.Method.{Method}
-use Rattle.cfj_model.specs.Print.{line_end, texts, joined, field_text, param_text, sent_text, assign_text, ctor_text, expr_text, method_text, class_text, name_text, features_text}
-use Rattle.cfj_model.specs.Projection.{is_present, bare_field, bare_param, bare_sent, projected_class, projected_ctor}
+use Rattle.cfj_model.specs.Print.{line_end, texts, joined, field_text, param_text, sent_text, assign_text, ctor_text, expr_text, method_text, class_text, name_text, features_text, plain_printed}
+use Rattle.cfj_model.specs.ProductLines.{ProductLine}
+use Rattle.cfj_model.specs.Projection.{is_present, bare_field, bare_param, bare_sent, projected, projected_class}
 use Rattle.cfj_model.specs.Selections.{Chosen}
 use Rattle.feature_views.specs.Selected.{selected_nodes, selected_method}
 use Rattle.feature_views.proofs.Presence.{ctor_is, class_is}
 use Rattle.fj_printer.specs.declared.showing.Showing.{Showing}
 use Rattle.fj_printer.specs.declared.showing.Showing.TheVariants as showing
 use Rattle.fj_printer.specs.Parts.{class_head_text, ctor_head_text, method_head_text}
-use Rattle.fj_printer.specs.Shown.{names, shows, shown_fields, shown_params, shown_sents, shown_methods, shown_expr, shown_ctor, shown_method, shown_method_text, shown_class}
+use Rattle.fj_printer.specs.Shown.{names, shows, shown_fields, shown_params, shown_sents, shown_methods, shown_expr, shown_ctor, shown_method, shown_method_text, shown_class, shown_classes, shown_class_text}
 use Rattle.fj_printer.proofs.Lists.{all_kept, texts-map, joined-map}
 
 module _ (features : List (List ℕ)) where
@@ -97,6 +98,15 @@ class_parts (showing.Selected selection) k here =
     (texts-map (field_text []) bare_field (filter (λ (f : Field). is_present s f.colors) k.fields))
     ∙ ap (λ w. class_head_text [] k ++ (texts (field_text []) (filter (λ (f : Field). is_present s f.colors) k.fields) ++ (ctor ++ (w ++ (codes "}" ++ line_end)))))
     (texts-map (method_text []) (selected_method s) (filter (λ (m : Method). is_present s m.colors) k.methods))
+
+-- the text of all classes, and of those of a variant
+pub all_classes : (features : List (List ℕ)) (ks : List Class) → texts (class_text features) ks ≡ texts (class_text features) (filter (λ _. true) ks)
+all_classes features ks = ap (texts (class_text features)) (sym (all_kept ks))
+
+pub variant_classes : (selection : Bor Chosen) (line : ProductLine) → plain_printed (projected selection.now line).classes ≡ texts (shown_class_text (showing.Selected selection)) (shown_classes (showing.Selected selection) line.classes)
+unfolding projected
+variant_classes selection line =
+    texts-map (class_text []) (projected_class selection.now) (filter (λ (k : Class). is_present selection.now k.colors) line.classes)
 
 -- the feature line, where there are features
 pub line_of_some : (features : List (List ℕ)) → (length features == 0) ≡ false → features_text features ≡ codes "features " ++ (joined name_text features ++ (codes ";" ++ line_end))

@@ -1,5 +1,5 @@
 -- The text of what is printed of an expression, variant by variant.
-use Rattle.std.proofs.Common.{◌≡◌, refl, sym, ap, ◌∙◌, Bool, true, false, if◌then◌else◌, List, [], ◌∷◌, ℕ, ◌++◌, map, codes, append-nil}
+use Rattle.std.proofs.Common.{◌≡◌, refl, sym, ap, ◌∙◌, Bool, true, false, if◌then◌else◌, List, [], ℕ, ◌++◌, map, codes, append-nil}
 use Rattle.std.specs.List.{filter}
 use Rattle.std.proofs.lemmas.List.{append_assoc}
 use Rattle.cfj_model.specs.declared.expr.Arg.{Arg}
@@ -8,7 +8,7 @@ use Rattle.cfj_model.specs.declared.expr.Expr.TheVariants as e
 use Rattle.cfj_model.proofs.ExprCases.{fold_var, fold_get, fold_call, fold_new, fold_cast, by_cases, args_of}
 use Rattle.cfj_model.specs.Print.{joined, Shown, shown_step, shown_arg, receiver_text, itself, expr_text}
 use Rattle.cfj_model.specs.Projection.{is_present}
-use Rattle.feature_views.specs.Selected.{selected_expr, selected_arg, selected_args}
+use Rattle.feature_views.specs.Selected.{selected_arg, selected_args}
 use Rattle.feature_views.proofs.SelectedBodies.{selected_var, selected_get, selected_call, selected_new, selected_cast}
 use Rattle.fj_printer.specs.declared.showing.Showing.{Showing}
 use Rattle.fj_printer.specs.declared.showing.Showing.TheVariants as showing

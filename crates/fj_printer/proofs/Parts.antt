@@ -17,7 +17,7 @@ use Rattle.feature_views.proofs.Presence.{ctor_is, class_is}
 use Rattle.fj_printer.specs.declared.showing.Showing.{Showing}
 use Rattle.fj_printer.specs.declared.showing.Showing.TheVariants as showing
 use Rattle.fj_printer.specs.Parts.{class_head_text, ctor_head_text, method_head_text}
-use Rattle.fj_printer.specs.Shown.{names, shows, shown_fields, shown_params, shown_sents, shown_methods, shown_expr, shown_ctor, shown_method, shown_method_text, shown_class, shown_classes, shown_class_text}
+use Rattle.fj_printer.specs.Shown.{names, shows, shown_fields, shown_params, shown_sents, shown_methods, shown_expr, shown_ctor, shown_method_text, shown_class, shown_classes, shown_class_text}
 use Rattle.fj_printer.proofs.Lists.{all_kept, texts-map, joined-map}
 
 module _ (features : List (List ℕ)) where
@@ -74,11 +74,11 @@ selected_class : (s : Chosen) (k : Class) → is_present s k.colors ≡ true →
       parent = k.parent;
       fields = selected_nodes (λ (f : Field). f.colors) bare_field s k.fields;
       ctor =
-        record {
-          params = selected_nodes (λ (p : Param). p.colors) bare_param s k.ctor.params;
-          sends = selected_nodes (λ (a : Sent). a.colors) bare_sent s k.ctor.sends;
-          assigns = selected_nodes (λ (a : Sent). a.colors) bare_sent s k.ctor.assigns;
-        };
+          record {
+            params = selected_nodes (λ (p : Param). p.colors) bare_param s k.ctor.params;
+            sends = selected_nodes (λ (a : Sent). a.colors) bare_sent s k.ctor.sends;
+            assigns = selected_nodes (λ (a : Sent). a.colors) bare_sent s k.ctor.assigns;
+          };
       methods = selected_nodes (λ (m : Method). m.colors) (selected_method s) s k.methods;
     }
     ≡ projected_class s k

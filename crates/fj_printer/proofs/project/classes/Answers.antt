@@ -2,7 +2,6 @@ use Rattle.std.proofs.Common.{arith, ap, sym, ◌∙◌}
 use Rattle.std.proofs.lemmas.Option.{get_or_from_slice_get}
 use Rattle.cfj_model.specs.declared.class.Class.{Class}
 use Rattle.cfj_model.specs.Print.{texts}
-use Rattle.fj_printer.specs.Adds.{Outlet, outlet}
 use Rattle.fj_printer.specs.Shown.{shows, shown_class_text}
 use Rattle.fj_printer.proofs.Composing.{adds_as, adds_more, adds_stopped}
 use Rattle.fj_printer.proofs.Lists.{kept_same, kept_texts_more, kept_texts_there}

@@ -101,9 +101,6 @@ module _ (view : Showing) where
   seen_cast slot class on =
       ap (shown (names view)) (shown_cast view slot class on) ∙ fold_cast Shown (List ℕ) shown_step (shown_arg (names view)) slot class (shown_expr view on)
 
-  pub var_text : (whole : Expr) (slot : ℕ) (name piece : List ℕ) → whole ≡ e.Var slot name → piece ≡ name → text whole ≡ piece
-  var_text whole slot name piece is name_is = ap text is ∙ ap text_of (seen_var slot name) ∙ sym name_is
-
   pub get_text : (whole : Expr) (slot : ℕ) (on x : Expr) (field name : List ℕ) → whole ≡ e.Get slot on field → x ≡ on → name ≡ field → text whole ≡ receiver x ++ (codes "." ++ (name ++ []))
   get_text whole slot on x field name is on_is name_is =
       ap text is

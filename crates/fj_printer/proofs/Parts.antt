@@ -33,16 +33,8 @@ module _ (features : List (List ℕ)) where
   unfolding method_text
   parts_of_method m = simp append_assoc
 
--- the parts of a constructor and a method that are printed
-abbrev ctor_pieces : Showing → List ℕ → Constructor → List ℕ
-ctor_pieces view name c =
-    ctor_head_text name
-    ++ (joined (param_text (names view)) (shown_params view c.params)
-    ++ (codes ") { super("
-    ++ (joined (sent_text (names view)) (shown_sents view c.sends)
-    ++ (codes ");" ++ (texts (assign_text (names view)) (shown_sents view c.assigns) ++ (codes " }" ++ line_end))))))
-
-pub ctor_parts : (view : Showing) (name : List ℕ) (c : Constructor) → ctor_text (names view) name (shown_ctor view c) ≡ ctor_pieces view name c
+-- what is printed of a constructor, and of a method
+pub ctor_parts : (view : Showing) (name : List ℕ) (c : Constructor) → ctor_text (names view) name (shown_ctor view c) ≡ ctor_head_text name ++ (joined (param_text (names view)) (shown_params view c.params) ++ (codes ") { super(" ++ (joined (sent_text (names view)) (shown_sents view c.sends) ++ (codes ");" ++ (texts (assign_text (names view)) (shown_sents view c.assigns) ++ (codes " }" ++ line_end))))))
 ctor_parts (showing.Marked features) name c =
     let params = all_kept c.params in
     let sends = all_kept c.sends in
@@ -53,37 +45,33 @@ ctor_parts (showing.Selected selection) name c =
     let params = joined-map (param_text []) bare_param (filter (λ (p : Param). is_present s p.colors) c.params) in
     let sends = joined-map (sent_text []) bare_sent (filter (λ (a : Sent). is_present s a.colors) c.sends) in
     let assigns = texts-map (assign_text []) bare_sent (filter (λ (a : Sent). is_present s a.colors) c.assigns) in
-    parts_of_ctor [] name (shown_ctor (showing.Selected selection) c)
-    ∙ ap (λ w. ctor_head_text name ++ (w ++ (codes ") { super(" ++ (joined (sent_text []) (selected_nodes (λ (a : Sent). a.colors) bare_sent s c.sends) ++ (codes ");" ++ (texts (assign_text []) (selected_nodes (λ (a : Sent). a.colors) bare_sent s c.assigns) ++ (codes " }" ++ line_end))))))) params
-    ∙ ap (λ w. ctor_head_text name ++ (joined (param_text []) (filter (λ (p : Param). is_present s p.colors) c.params) ++ (codes ") { super(" ++ (w ++ (codes ");" ++ (texts (assign_text []) (selected_nodes (λ (a : Sent). a.colors) bare_sent s c.assigns) ++ (codes " }" ++ line_end))))))) sends
-    ∙ ap (λ w. ctor_head_text name ++ (joined (param_text []) (filter (λ (p : Param). is_present s p.colors) c.params) ++ (codes ") { super(" ++ (joined (sent_text []) (filter (λ (a : Sent). is_present s a.colors) c.sends) ++ (codes ");" ++ (w ++ (codes " }" ++ line_end))))))) assigns
+    rw (params, sends, assigns) at (parts_of_ctor [] name (shown_ctor (showing.Selected selection) c))
 
 pub method_parts : (view : Showing) (m : Method) → shown_method_text view m ≡ method_head_text (names view) m ++ (joined (param_text (names view)) (shown_params view m.params) ++ (codes ") { return " ++ (expr_text (names view) (shown_expr view m.body) ++ (codes "; }" ++ line_end))))
 method_parts (showing.Marked features) m = let params = all_kept m.params in rw params (parts_of_method features.now m)
 method_parts (showing.Selected selection) m =
     let s = selection.now in
-    parts_of_method [] (selected_method s m)
-    ∙ ap (λ w. method_head_text [] m ++ (w ++ (codes ") { return " ++ (expr_text [] (shown_expr (showing.Selected selection) m.body) ++ (codes "; }" ++ line_end)))))
-    (joined-map (param_text []) bare_param (filter (λ (p : Param). is_present s p.colors) m.params))
+    let params = joined-map (param_text []) bare_param (filter (λ (p : Param). is_present s p.colors) m.params) in
+    rw params at (parts_of_method [] (selected_method s m))
 
--- a present class by its selected nodes
-selected_class : (s : Chosen) (k : Class) → is_present s k.colors ≡ true →
+-- a class with its selected nodes; where it is present these are the present ones
+abbrev selected_class : Bor Chosen → Class → Class
+selected_class selection k =
     record {
       name = k.name;
       colors = 0;
       parent = k.parent;
-      fields = selected_nodes (λ (f : Field). f.colors) bare_field s k.fields;
-      ctor =
-          record {
-            params = selected_nodes (λ (p : Param). p.colors) bare_param s k.ctor.params;
-            sends = selected_nodes (λ (a : Sent). a.colors) bare_sent s k.ctor.sends;
-            assigns = selected_nodes (λ (a : Sent). a.colors) bare_sent s k.ctor.assigns;
-          };
-      methods = selected_nodes (λ (m : Method). m.colors) (selected_method s) s k.methods;
+      fields = selected_nodes (λ (f : Field). f.colors) bare_field selection.now k.fields;
+      ctor = shown_ctor (showing.Selected selection) k.ctor;
+      methods = selected_nodes (λ (m : Method). m.colors) (selected_method selection.now) selection.now k.methods;
     }
-    ≡ projected_class s k
-selected_class s k here = class_is s k _ _ _ _ _ _ here refl refl refl refl (ctor_is s k.colors k.ctor _ _ _ here refl refl refl) refl
 
+selected_is : (selection : Bor Chosen) (k : Class) → is_present selection.now k.colors ≡ true → selected_class selection k ≡ projected_class selection.now k
+selected_is selection k here =
+    let s = selection.now in
+    class_is s k _ _ _ _ _ _ here refl refl refl refl (ctor_is s k.colors k.ctor _ _ _ here refl refl refl) refl
+
+-- what is printed of a class
 pub class_parts : (view : Showing) (k : Class) → shows view k.colors ≡ true → class_text (names view) (shown_class view k) ≡ class_head_text (names view) k ++ (texts (field_text (names view)) (shown_fields view k.fields) ++ (ctor_text (names view) k.name (shown_ctor view k.ctor) ++ (texts (shown_method_text view) (shown_methods view k.methods) ++ (codes "}" ++ line_end))))
 class_parts (showing.Marked features) k here =
     let fields = all_kept k.fields in
@@ -91,13 +79,9 @@ class_parts (showing.Marked features) k here =
     rw (fields, methods) (parts_of_class features.now k)
 class_parts (showing.Selected selection) k here =
     let s = selection.now in
-    let ctor : List ℕ = ctor_text [] k.name (shown_ctor (showing.Selected selection) k.ctor) in
-    ap (class_text []) (sym (selected_class s k here))
-    ∙ parts_of_class [] _
-    ∙ ap (λ w. class_head_text [] k ++ (w ++ (ctor ++ (texts (method_text []) (selected_nodes (λ (m : Method). m.colors) (selected_method s) s k.methods) ++ (codes "}" ++ line_end)))))
-    (texts-map (field_text []) bare_field (filter (λ (f : Field). is_present s f.colors) k.fields))
-    ∙ ap (λ w. class_head_text [] k ++ (texts (field_text []) (filter (λ (f : Field). is_present s f.colors) k.fields) ++ (ctor ++ (w ++ (codes "}" ++ line_end)))))
-    (texts-map (method_text []) (selected_method s) (filter (λ (m : Method). is_present s m.colors) k.methods))
+    let fields = texts-map (field_text []) bare_field (filter (λ (f : Field). is_present s f.colors) k.fields) in
+    let methods = texts-map (method_text []) (selected_method s) (filter (λ (m : Method). is_present s m.colors) k.methods) in
+    ap (class_text []) (sym (selected_is selection k here)) ∙ (rw (fields, methods) at (parts_of_class [] (selected_class selection k)))
 
 -- the text of all classes, and of those of a variant
 pub all_classes : (features : List (List ℕ)) (ks : List Class) → texts (class_text features) ks ≡ texts (class_text features) (filter (λ _. true) ks)

@@ -93,11 +93,10 @@ fn export_variant<O: Sink>(
     ensures named { O.name out.new ≡ O.name out.old }
     ensures later { O.faults out.old ≤ O.faults out.new }
 {
-    match export_to(alloc, project, selection, out) {
+    match export_to(project, selection, out) {
         Ok(()) => Outcome::Done,
         Err(ExportFault::InvalidSelection(at)) => invalid(alloc, at),
         Err(ExportFault::WriteFault) => Outcome::WriteFault,
-        Err(ExportFault::NoMemory) => Outcome::NoMemory,
     }
 }
 

@@ -151,3 +151,7 @@ pub all_failed : {a b : Outlet} {part whole : List ℕ} {e : Failed} (rest : Lis
 all_failed {a} {b} rest result is nothing h w =
     let P : List ℕ → Type 0 = λ t. Carries a b t result in
     all_added result nothing (IfOk-from_err result (λ _. b.pending ≡ []) is) (subst P (sym w) (adds_failed rest result is h))
+
+-- an addition that is told in another way
+pub added_as : (old new : Known) {text whole : List ℕ} (result : Result Unit Failed) → whole ≡ text → IsAdded old new text result → IsAdded old new whole result
+added_as old new result e h = let P : List ℕ → Type 0 = λ t. IsAdded old new t result in subst P (sym e) h

@@ -1,60 +1,65 @@
-ghost use Rattle.std.specs.Prelude.{◌≤◌, length};
-ghost use Rattle.cfj_model.specs.Print.{texts, field_text, class_text};
+ghost use Rattle.std.specs.Prelude.{◌≡◌, ◌≤◌, true, length};
+ghost use Rattle.cfj_model.specs.Print.{texts, field_text};
 ghost use Rattle.fj_printer.specs.Adds.{Adds};
 ghost use Rattle.fj_printer.specs.Parts.{class_head_text};
+ghost use Rattle.fj_printer.specs.Shown.{names, shows, shown_fields, shown_class_text};
 
 use crate::buffer::Buffer;
 use crate::ctors::ctor;
 use crate::marks::marked;
 use crate::methods::methods;
 use crate::pieces::add_all;
-use cfj_model::{Class, Field, Items, Name};
+use crate::showing::Showing;
+use cfj_model::{Class, Field, Items};
 use cide_io::{Failed, Sink};
 
-/// Adds a class, on lines.
+/// Adds a class that is printed, on lines.
 pub fn class<K: Sink>(
     buffer: &mut Buffer,
     sink: &mut K,
-    features: &[Name],
+    showing: &Showing<'_>,
     class: &Class,
 ) -> Result<(), Failed>
-    requires { length features.now ≤ 128 }
-    ensures { Adds K.held K.name K.faults sink.old buffer.old sink.new buffer.new (class_text features.now class.now) result }
+    requires few { length (names showing.now) ≤ 128 }
+    requires shown { shows showing.now class.now.colors ≡ true }
+    ensures { Adds K.held K.name K.faults sink.old buffer.old sink.new buffer.new (shown_class_text showing.now class.now) result }
 {
-    head(buffer, sink, features, class)?;
-    fields(buffer, sink, features, &class.fields)?;
-    ctor(buffer, sink, features, &class.name, &class.ctor)?;
-    methods(buffer, sink, features, &class.methods)?;
+    head(buffer, sink, showing, class)?;
+    fields(buffer, sink, showing, &class.fields)?;
+    ctor(buffer, sink, showing, &class.name, &class.ctor)?;
+    methods(buffer, sink, showing, &class.methods)?;
     add_all(buffer, sink, &["}\n"])
 }
 
 fn head<K: Sink>(
     buffer: &mut Buffer,
     sink: &mut K,
-    features: &[Name],
+    showing: &Showing<'_>,
     class: &Class,
 ) -> Result<(), Failed>
-    requires { length features.now ≤ 128 }
-    ensures { Adds K.held K.name K.faults sink.old buffer.old sink.new buffer.new (class_head_text features.now class.now) result }
+    requires { length (names showing.now) ≤ 128 }
+    ensures { Adds K.held K.name K.faults sink.old buffer.old sink.new buffer.new (class_head_text (names showing.now) class.now) result }
 {
     let name = class.name.text();
     let parent = class.parent.text();
     let rest = ["class ", name, " extends ", parent, " {\n"];
-    marked(buffer, sink, features, "", class.colors, &rest)
+    marked(buffer, sink, showing, "", class.colors, &rest)
 }
 
 fn fields<K: Sink>(
     buffer: &mut Buffer,
     sink: &mut K,
-    features: &[Name],
+    showing: &Showing<'_>,
     fields: &Items<Field>,
 ) -> Result<(), Failed>
-    requires { length features.now ≤ 128 }
-    ensures { Adds K.held K.name K.faults sink.old buffer.old sink.new buffer.new (texts (field_text features.now) fields.now) result }
+    requires { length (names showing.now) ≤ 128 }
+    ensures { Adds K.held K.name K.faults sink.old buffer.old sink.new buffer.new (texts (field_text (names showing.now)) (shown_fields showing.now fields.now)) result }
 {
     let list = fields.slice();
     'fields: for item in list {
-        field(buffer, sink, features, item)?;
+        if showing.shows(item.colors) {
+            field(buffer, sink, showing, item)?;
+        }
     }
     Ok(())
 }
@@ -62,14 +67,14 @@ fn fields<K: Sink>(
 fn field<K: Sink>(
     buffer: &mut Buffer,
     sink: &mut K,
-    features: &[Name],
+    showing: &Showing<'_>,
     field: &Field,
 ) -> Result<(), Failed>
-    requires { length features.now ≤ 128 }
-    ensures { Adds K.held K.name K.faults sink.old buffer.old sink.new buffer.new (field_text features.now field.now) result }
+    requires { length (names showing.now) ≤ 128 }
+    ensures { Adds K.held K.name K.faults sink.old buffer.old sink.new buffer.new (field_text (names showing.now) field.now) result }
 {
     let of = field.of.text();
     let name = field.name.text();
     let rest = [of, " ", name, ";\n"];
-    marked(buffer, sink, features, "  ", field.colors, &rest)
+    marked(buffer, sink, showing, "  ", field.colors, &rest)
 }

@@ -2,10 +2,12 @@ ghost use Rattle.std.specs.Prelude.{◌≤◌, ◌++◌, length};
 ghost use Rattle.cfj_model.specs.Print.{texts, joined, param_text, sent_text, assign_text, ctor_text};
 ghost use Rattle.fj_printer.specs.Adds.{Adds};
 ghost use Rattle.fj_printer.specs.Parts.{ctor_head_text};
+ghost use Rattle.fj_printer.specs.Shown.{names, shown_params, shown_sents, shown_ctor};
 
 use crate::buffer::Buffer;
 use crate::marks::marked;
 use crate::pieces::add_all;
+use crate::showing::Showing;
 use cfj_model::{Constructor, Items, Name, Param, Sent};
 use cide_io::{Failed, Sink};
 
@@ -13,19 +15,19 @@ use cide_io::{Failed, Sink};
 pub fn ctor<K: Sink>(
     buffer: &mut Buffer,
     sink: &mut K,
-    features: &[Name],
+    showing: &Showing<'_>,
     name: &Name,
     ctor: &Constructor,
 ) -> Result<(), Failed>
-    requires { length features.now ≤ 128 }
-    ensures { Adds K.held K.name K.faults sink.old buffer.old sink.new buffer.new (ctor_text features.now name.now ctor.now) result }
+    requires { length (names showing.now) ≤ 128 }
+    ensures { Adds K.held K.name K.faults sink.old buffer.old sink.new buffer.new (ctor_text (names showing.now) name.now (shown_ctor showing.now ctor.now)) result }
 {
     head(buffer, sink, name)?;
-    params(buffer, sink, features, &ctor.params)?;
+    params(buffer, sink, showing, &ctor.params)?;
     add_all(buffer, sink, &[") { super("])?;
-    sends(buffer, sink, features, &ctor.sends)?;
+    sends(buffer, sink, showing, &ctor.sends)?;
     add_all(buffer, sink, &[");"])?;
-    assigns(buffer, sink, features, &ctor.assigns)?;
+    assigns(buffer, sink, showing, &ctor.assigns)?;
     add_all(buffer, sink, &[" }\n"])
 }
 
@@ -39,17 +41,19 @@ fn head<K: Sink>(buffer: &mut Buffer, sink: &mut K, name: &Name) -> Result<(), F
 pub fn params<K: Sink>(
     buffer: &mut Buffer,
     sink: &mut K,
-    features: &[Name],
+    showing: &Showing<'_>,
     params: &Items<Param>,
 ) -> Result<(), Failed>
-    requires { length features.now ≤ 128 }
-    ensures { Adds K.held K.name K.faults sink.old buffer.old sink.new buffer.new (joined (param_text features.now) params.now) result }
+    requires { length (names showing.now) ≤ 128 }
+    ensures { Adds K.held K.name K.faults sink.old buffer.old sink.new buffer.new (joined (param_text (names showing.now)) (shown_params showing.now params.now)) result }
 {
     let list = params.slice();
     let mut separator = "";
     'params: for item in list {
-        param(buffer, sink, features, separator, item)?;
-        separator = ", ";
+        if showing.shows(item.colors) {
+            param(buffer, sink, showing, separator, item)?;
+            separator = ", ";
+        }
     }
     Ok(())
 }
@@ -57,33 +61,35 @@ pub fn params<K: Sink>(
 fn param<K: Sink>(
     buffer: &mut Buffer,
     sink: &mut K,
-    features: &[Name],
+    showing: &Showing<'_>,
     separator: &str,
     param: &Param,
 ) -> Result<(), Failed>
-    requires { length features.now ≤ 128 }
-    ensures { Adds K.held K.name K.faults sink.old buffer.old sink.new buffer.new (separator.now ++ param_text features.now param.now) result }
+    requires { length (names showing.now) ≤ 128 }
+    ensures { Adds K.held K.name K.faults sink.old buffer.old sink.new buffer.new (separator.now ++ param_text (names showing.now) param.now) result }
 {
     let of = param.of.text();
     let name = param.name.text();
     let rest = [of, " ", name];
-    marked(buffer, sink, features, separator, param.colors, &rest)
+    marked(buffer, sink, showing, separator, param.colors, &rest)
 }
 
 fn sends<K: Sink>(
     buffer: &mut Buffer,
     sink: &mut K,
-    features: &[Name],
+    showing: &Showing<'_>,
     sends: &Items<Sent>,
 ) -> Result<(), Failed>
-    requires { length features.now ≤ 128 }
-    ensures { Adds K.held K.name K.faults sink.old buffer.old sink.new buffer.new (joined (sent_text features.now) sends.now) result }
+    requires { length (names showing.now) ≤ 128 }
+    ensures { Adds K.held K.name K.faults sink.old buffer.old sink.new buffer.new (joined (sent_text (names showing.now)) (shown_sents showing.now sends.now)) result }
 {
     let list = sends.slice();
     let mut separator = "";
     'sends: for item in list {
-        sent(buffer, sink, features, separator, item)?;
-        separator = ", ";
+        if showing.shows(item.colors) {
+            sent(buffer, sink, showing, separator, item)?;
+            separator = ", ";
+        }
     }
     Ok(())
 }
@@ -91,29 +97,31 @@ fn sends<K: Sink>(
 fn sent<K: Sink>(
     buffer: &mut Buffer,
     sink: &mut K,
-    features: &[Name],
+    showing: &Showing<'_>,
     separator: &str,
     sent: &Sent,
 ) -> Result<(), Failed>
-    requires { length features.now ≤ 128 }
-    ensures { Adds K.held K.name K.faults sink.old buffer.old sink.new buffer.new (separator.now ++ sent_text features.now sent.now) result }
+    requires { length (names showing.now) ≤ 128 }
+    ensures { Adds K.held K.name K.faults sink.old buffer.old sink.new buffer.new (separator.now ++ sent_text (names showing.now) sent.now) result }
 {
     let name = sent.name.text();
-    marked(buffer, sink, features, separator, sent.colors, &[name])
+    marked(buffer, sink, showing, separator, sent.colors, &[name])
 }
 
 fn assigns<K: Sink>(
     buffer: &mut Buffer,
     sink: &mut K,
-    features: &[Name],
+    showing: &Showing<'_>,
     assigns: &Items<Sent>,
 ) -> Result<(), Failed>
-    requires { length features.now ≤ 128 }
-    ensures { Adds K.held K.name K.faults sink.old buffer.old sink.new buffer.new (texts (assign_text features.now) assigns.now) result }
+    requires { length (names showing.now) ≤ 128 }
+    ensures { Adds K.held K.name K.faults sink.old buffer.old sink.new buffer.new (texts (assign_text (names showing.now)) (shown_sents showing.now assigns.now)) result }
 {
     let list = assigns.slice();
     'assigns: for item in list {
-        assign(buffer, sink, features, item)?;
+        if showing.shows(item.colors) {
+            assign(buffer, sink, showing, item)?;
+        }
     }
     Ok(())
 }
@@ -121,13 +129,13 @@ fn assigns<K: Sink>(
 fn assign<K: Sink>(
     buffer: &mut Buffer,
     sink: &mut K,
-    features: &[Name],
+    showing: &Showing<'_>,
     assign: &Sent,
 ) -> Result<(), Failed>
-    requires { length features.now ≤ 128 }
-    ensures { Adds K.held K.name K.faults sink.old buffer.old sink.new buffer.new (assign_text features.now assign.now) result }
+    requires { length (names showing.now) ≤ 128 }
+    ensures { Adds K.held K.name K.faults sink.old buffer.old sink.new buffer.new (assign_text (names showing.now) assign.now) result }
 {
     let name = assign.name.text();
     let rest = ["this.", name, " = ", name, ";"];
-    marked(buffer, sink, features, " ", assign.colors, &rest)
+    marked(buffer, sink, showing, " ", assign.colors, &rest)
 }

@@ -1,12 +1,14 @@
 ghost use Rattle.std.specs.Prelude.{◌≡◌, ◌≤◌, ℕ, List, ◌++◌, length};
 ghost use Rattle.cfj_model.specs.Print.{joined, expr_text, receiver_text};
 ghost use Rattle.fj_printer.specs.Adds.{Adds};
-ghost use Rattle.fj_printer.specs.Parts.{arg_text, shown};
+ghost use Rattle.fj_printer.specs.Parts.{shown};
+ghost use Rattle.fj_printer.specs.Shown.{names, shown_args, shown_expr, shown_arg_text};
 
 use crate::buffer::Buffer;
 use crate::marks::marks;
 use crate::pieces::{add_all, add_text};
-use cfj_model::{Arg, Expr, Name};
+use crate::showing::Showing;
+use cfj_model::{Arg, Expr};
 use cide_io::{Failed, Sink};
 
 /// Adds an expression.
@@ -14,16 +16,16 @@ use cide_io::{Failed, Sink};
 pub fn expr<K: Sink>(
     buffer: &mut Buffer,
     sink: &mut K,
-    features: &[Name],
+    showing: &Showing<'_>,
     expr: &Expr,
 ) -> Result<(), Failed>
-    requires { length features.now ≤ 128 }
-    ensures { Adds K.held K.name K.faults sink.old buffer.old sink.new buffer.new (expr_text features.now expr.now) result }
+    requires { length (names showing.now) ≤ 128 }
+    ensures { Adds K.held K.name K.faults sink.old buffer.old sink.new buffer.new (expr_text (names showing.now) (shown_expr showing.now expr.now)) result }
 {
     match expr {
         Expr::Var { name, .. } => add_text(buffer, sink, name.text()),
         Expr::Get { on, field, .. } => {
-            receiver(buffer, sink, features, on.get())?;
+            receiver(buffer, sink, showing, on.get())?;
             add_all(buffer, sink, &[".", field.text()])
         }
         Expr::Call {
@@ -32,19 +34,19 @@ pub fn expr<K: Sink>(
             args,
             ..
         } => {
-            receiver(buffer, sink, features, on.get())?;
+            receiver(buffer, sink, showing, on.get())?;
             add_all(buffer, sink, &[".", method.text(), "("])?;
-            arguments(buffer, sink, features, args.slice())?;
+            arguments(buffer, sink, showing, args.slice())?;
             add_text(buffer, sink, ")")
         }
         Expr::New { class, args, .. } => {
             add_all(buffer, sink, &["new ", class.text(), "("])?;
-            arguments(buffer, sink, features, args.slice())?;
+            arguments(buffer, sink, showing, args.slice())?;
             add_text(buffer, sink, ")")
         }
         Expr::Cast { class, on, .. } => {
             add_all(buffer, sink, &["(", class.text(), ") "])?;
-            self::expr(buffer, sink, features, on.get())
+            self::expr(buffer, sink, showing, on.get())
         }
     }
 }
@@ -54,18 +56,18 @@ pub fn expr<K: Sink>(
 fn receiver<K: Sink>(
     buffer: &mut Buffer,
     sink: &mut K,
-    features: &[Name],
+    showing: &Showing<'_>,
     on: &Expr,
 ) -> Result<(), Failed>
-    requires { length features.now ≤ 128 }
-    ensures { Adds K.held K.name K.faults sink.old buffer.old sink.new buffer.new (receiver_text (shown features.now on.now)) result }
+    requires { length (names showing.now) ≤ 128 }
+    ensures { Adds K.held K.name K.faults sink.old buffer.old sink.new buffer.new (receiver_text (shown (names showing.now) (shown_expr showing.now on.now))) result }
 {
     if is_cast(on) {
         add_text(buffer, sink, "(")?;
-        expr(buffer, sink, features, on)?;
+        expr(buffer, sink, showing, on)?;
         add_text(buffer, sink, ")")
     } else {
-        expr(buffer, sink, features, on)
+        expr(buffer, sink, showing, on)
     }
 }
 
@@ -82,16 +84,18 @@ fn is_cast(expr: &Expr) -> bool
 fn arguments<K: Sink>(
     buffer: &mut Buffer,
     sink: &mut K,
-    features: &[Name],
+    showing: &Showing<'_>,
     args: &[Arg],
 ) -> Result<(), Failed>
-    requires { length features.now ≤ 128 }
-    ensures { Adds K.held K.name K.faults sink.old buffer.old sink.new buffer.new (joined (arg_text features.now) args.now) result }
+    requires { length (names showing.now) ≤ 128 }
+    ensures { Adds K.held K.name K.faults sink.old buffer.old sink.new buffer.new (joined (shown_arg_text showing.now) (shown_args showing.now args.now)) result }
 {
     let mut separator = "";
     'each: for item in args {
-        argument(buffer, sink, features, separator, item)?;
-        separator = ", ";
+        if showing.shows(item.colors) {
+            argument(buffer, sink, showing, separator, item)?;
+            separator = ", ";
+        }
     }
     Ok(())
 }
@@ -100,14 +104,14 @@ fn arguments<K: Sink>(
 fn argument<K: Sink>(
     buffer: &mut Buffer,
     sink: &mut K,
-    features: &[Name],
+    showing: &Showing<'_>,
     separator: &str,
     arg: &Arg,
 ) -> Result<(), Failed>
-    requires { length features.now ≤ 128 }
-    ensures { Adds K.held K.name K.faults sink.old buffer.old sink.new buffer.new (separator.now ++ arg_text features.now arg.now) result }
+    requires { length (names showing.now) ≤ 128 }
+    ensures { Adds K.held K.name K.faults sink.old buffer.old sink.new buffer.new (separator.now ++ shown_arg_text showing.now arg.now) result }
 {
     add_text(buffer, sink, separator)?;
-    marks(buffer, sink, features, arg.colors)?;
-    expr(buffer, sink, features, &arg.expr)
+    marks(buffer, sink, showing, arg.colors)?;
+    expr(buffer, sink, showing, &arg.expr)
 }

@@ -18,5 +18,6 @@ mod marks;
 mod methods;
 mod pieces;
 mod project;
+mod showing;
 
-pub use project::{print_class, print_plain, print_project};
+pub use project::{print_class, print_plain, print_project, print_variant};

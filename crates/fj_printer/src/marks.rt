@@ -1,9 +1,11 @@
 ghost use Rattle.std.specs.Prelude.{◌<◌, ◌≤◌, ◌++◌, length};
 ghost use Rattle.cfj_model.specs.Print.{texts, mark_text, marks_text};
 ghost use Rattle.fj_printer.specs.Adds.{Adds};
+ghost use Rattle.fj_printer.specs.Shown.{names};
 
 use crate::buffer::Buffer;
 use crate::pieces::{add_all, add_text};
+use crate::showing::Showing;
 use cfj_model::{Colors, Name};
 use cide_io::{Failed, Sink};
 
@@ -11,16 +13,16 @@ use cide_io::{Failed, Sink};
 pub fn marked<K: Sink>(
     buffer: &mut Buffer,
     sink: &mut K,
-    features: &[Name],
+    showing: &Showing<'_>,
     before: &str,
     colors: Colors,
     rest: &[&str],
 ) -> Result<(), Failed>
-    requires { length features.now ≤ 128 }
-    ensures { Adds K.held K.name K.faults sink.old buffer.old sink.new buffer.new (before.now ++ (marks_text features.now colors ++ texts (λ text. text.now) rest.now)) result }
+    requires { length (names showing.now) ≤ 128 }
+    ensures { Adds K.held K.name K.faults sink.old buffer.old sink.new buffer.new (before.now ++ (marks_text (names showing.now) colors ++ texts (λ text. text.now) rest.now)) result }
 {
     add_text(buffer, sink, before)?;
-    marks(buffer, sink, features, colors)?;
+    marks(buffer, sink, showing, colors)?;
     add_all(buffer, sink, rest)
 }
 
@@ -28,12 +30,13 @@ pub fn marked<K: Sink>(
 pub fn marks<K: Sink>(
     buffer: &mut Buffer,
     sink: &mut K,
-    features: &[Name],
+    showing: &Showing<'_>,
     colors: Colors,
 ) -> Result<(), Failed>
-    requires { length features.now ≤ 128 }
-    ensures { Adds K.held K.name K.faults sink.old buffer.old sink.new buffer.new (marks_text features.now colors) result }
+    requires { length (names showing.now) ≤ 128 }
+    ensures { Adds K.held K.name K.faults sink.old buffer.old sink.new buffer.new (marks_text (names showing.now) colors) result }
 {
+    let features = showing.features();
     'features: for (number, feature) in features.iter().enumerate() {
         mark(buffer, sink, number as u8, feature, colors)?;
     }

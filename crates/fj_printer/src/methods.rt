@@ -1,29 +1,33 @@
 ghost use Rattle.std.specs.Prelude.{◌≤◌, length};
-ghost use Rattle.cfj_model.specs.Print.{texts, method_text};
+ghost use Rattle.cfj_model.specs.Print.{texts};
 ghost use Rattle.fj_printer.specs.Adds.{Adds};
 ghost use Rattle.fj_printer.specs.Parts.{method_head_text};
+ghost use Rattle.fj_printer.specs.Shown.{names, shown_methods, shown_method_text};
 
 use crate::buffer::Buffer;
 use crate::ctors::params;
 use crate::exprs::expr;
 use crate::marks::marked;
 use crate::pieces::add_all;
-use cfj_model::{Items, Method, Name};
+use crate::showing::Showing;
+use cfj_model::{Items, Method};
 use cide_io::{Failed, Sink};
 
 /// Adds methods, each on a line.
 pub fn methods<K: Sink>(
     buffer: &mut Buffer,
     sink: &mut K,
-    features: &[Name],
+    showing: &Showing<'_>,
     methods: &Items<Method>,
 ) -> Result<(), Failed>
-    requires { length features.now ≤ 128 }
-    ensures { Adds K.held K.name K.faults sink.old buffer.old sink.new buffer.new (texts (method_text features.now) methods.now) result }
+    requires { length (names showing.now) ≤ 128 }
+    ensures { Adds K.held K.name K.faults sink.old buffer.old sink.new buffer.new (texts (shown_method_text showing.now) (shown_methods showing.now methods.now)) result }
 {
     let list = methods.slice();
     'methods: for item in list {
-        method(buffer, sink, features, item)?;
+        if showing.shows(item.colors) {
+            method(buffer, sink, showing, item)?;
+        }
     }
     Ok(())
 }
@@ -31,28 +35,28 @@ pub fn methods<K: Sink>(
 fn method<K: Sink>(
     buffer: &mut Buffer,
     sink: &mut K,
-    features: &[Name],
+    showing: &Showing<'_>,
     method: &Method,
 ) -> Result<(), Failed>
-    requires { length features.now ≤ 128 }
-    ensures { Adds K.held K.name K.faults sink.old buffer.old sink.new buffer.new (method_text features.now method.now) result }
+    requires { length (names showing.now) ≤ 128 }
+    ensures { Adds K.held K.name K.faults sink.old buffer.old sink.new buffer.new (shown_method_text showing.now method.now) result }
 {
-    head(buffer, sink, features, method)?;
-    params(buffer, sink, features, &method.params)?;
+    head(buffer, sink, showing, method)?;
+    params(buffer, sink, showing, &method.params)?;
     add_all(buffer, sink, &[") { return "])?;
-    expr(buffer, sink, features, &method.body)?;
+    expr(buffer, sink, showing, &method.body)?;
     add_all(buffer, sink, &["; }\n"])
 }
 
 fn head<K: Sink>(
     buffer: &mut Buffer,
     sink: &mut K,
-    features: &[Name],
+    showing: &Showing<'_>,
     method: &Method,
 ) -> Result<(), Failed>
-    requires { length features.now ≤ 128 }
-    ensures { Adds K.held K.name K.faults sink.old buffer.old sink.new buffer.new (method_head_text features.now method.now) result }
+    requires { length (names showing.now) ≤ 128 }
+    ensures { Adds K.held K.name K.faults sink.old buffer.old sink.new buffer.new (method_head_text (names showing.now) method.now) result }
 {
     let rest = [method.result.text(), " ", method.name.text(), "("];
-    marked(buffer, sink, features, "  ", method.colors, &rest)
+    marked(buffer, sink, showing, "  ", method.colors, &rest)
 }

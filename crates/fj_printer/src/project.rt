@@ -1,16 +1,19 @@
 ghost use Rattle.std.specs.Prelude.{◌≡◌, ◌≤◌, true, length};
 ghost use Rattle.cfj_model.specs.Print.{texts, class_text, printed, plain_printed};
 ghost use Rattle.cfj_model.specs.ProductLines.{IsPlain, is_class};
+ghost use Rattle.cfj_model.specs.Projection.{projected};
 ghost use Rattle.cide_io.specs.Faults.{HasCause};
 ghost use Rattle.cide_io.specs.Known.{IsAdded};
 ghost use Rattle.fj_printer.specs.Adds.{Adds};
+ghost use Rattle.fj_printer.specs.Shown.{names, shown_class_text, shown_classes};
 
 use crate::buffer::Buffer;
 use crate::classes::class as add_class;
 use crate::features::feature_line;
 use crate::formulas::constraint_lines;
 use crate::pieces::flush;
-use cfj_model::{Class, FeatureModel, Name, Project};
+use crate::showing::Showing;
+use cfj_model::{Class, FeatureModel, Project, Selection};
 use cide_io::{Failed, Sink};
 
 /// Appends the printed form of a project to what a sink holds, in pieces of up to 4,096 bytes: the feature line, a line for
@@ -27,7 +30,8 @@ pub fn print_project<K: Sink>(project: &Project, sink: &mut K) -> Result<(), Fai
     let mut buffer = Buffer::new();
     feature_line(&mut buffer, sink, features)?;
     constraint_lines(&mut buffer, sink, features, model.constraints.slice())?;
-    classes(&mut buffer, sink, features, project)?;
+    let showing = Showing::Marked(features);
+    classes(&mut buffer, sink, &showing, project)?;
     flush(&mut buffer, sink)
 }
 
@@ -40,9 +44,26 @@ pub fn print_plain<K: Sink>(project: &Project, sink: &mut K) -> Result<(), Faile
     ensures named { K.name sink.new ≡ K.name sink.old }
     ensures cause { HasCause (K.faults sink.old) (K.faults sink.new) result }
 {
-    let mut buffer = Buffer::new();
-    classes(&mut buffer, sink, &[], project)?;
-    flush(&mut buffer, sink)
+    let showing = Showing::Marked(&[]);
+    print_classes(project, &showing, sink)
+}
+
+/// Appends the printed form of the variant of a selection of the project's features, its classes alone, to what a sink holds, in
+/// pieces of up to 4,096 bytes. Each node is printed from the project where it is present; the variant itself isn't made.
+///
+/// After a failure the sink holds a proper prefix of that form behind what it held. No memory is taken.
+pub fn print_variant<K: Sink>(
+    project: &Project,
+    selection: &Selection,
+    sink: &mut K,
+) -> Result<(), Failed>
+    requires { selection.now.features ≡ length project.now.model.features }
+    ensures text { IsAdded (K.held sink.old) (K.held sink.new) (plain_printed (projected selection.now project.now).classes) result }
+    ensures named { K.name sink.new ≡ K.name sink.old }
+    ensures cause { HasCause (K.faults sink.old) (K.faults sink.new) result }
+{
+    let showing = Showing::Selected(selection);
+    print_classes(project, &showing, sink)
 }
 
 /// Appends the printed form of a class, with its marks, to what a sink holds, in pieces of up to 4,096 bytes.
@@ -56,21 +77,41 @@ pub fn print_class<K: Sink>(class: &Class, model: &FeatureModel, sink: &mut K) -
     ensures cause { HasCause (K.faults sink.old) (K.faults sink.new) result }
 {
     let mut buffer = Buffer::new();
-    add_class(&mut buffer, sink, model.features.slice(), class)?;
+    let showing = Showing::Marked(model.features.slice());
+    add_class(&mut buffer, sink, &showing, class)?;
+    flush(&mut buffer, sink)
+}
+
+// Appends the classes of a project, and nothing else.
+fn print_classes<K: Sink>(
+    project: &Project,
+    showing: &Showing<'_>,
+    sink: &mut K,
+) -> Result<(), Failed>
+    requires { length (names showing.now) ≤ 128 }
+    ensures text { IsAdded (K.held sink.old) (K.held sink.new) (texts (shown_class_text showing.now) (shown_classes showing.now project.now.classes)) result }
+    ensures named { K.name sink.new ≡ K.name sink.old }
+    ensures cause { HasCause (K.faults sink.old) (K.faults sink.new) result }
+{
+    let mut buffer = Buffer::new();
+    classes(&mut buffer, sink, showing, project)?;
     flush(&mut buffer, sink)
 }
 
 fn classes<K: Sink>(
     buffer: &mut Buffer,
     sink: &mut K,
-    features: &[Name],
+    showing: &Showing<'_>,
     project: &Project,
 ) -> Result<(), Failed>
-    requires { length features.now ≤ 128 }
-    ensures { Adds K.held K.name K.faults sink.old buffer.old sink.new buffer.new (texts (class_text features.now) project.now.classes) result }
+    requires { length (names showing.now) ≤ 128 }
+    ensures { Adds K.held K.name K.faults sink.old buffer.old sink.new buffer.new (texts (shown_class_text showing.now) (shown_classes showing.now project.now.classes)) result }
 {
     'classes: for place in 0..project.class_count() {
-        add_class(buffer, sink, features, project.class(place))?;
+        let class = project.class(place);
+        if showing.shows(class.colors) {
+            add_class(buffer, sink, showing, class)?;
+        }
     }
     Ok(())
 }

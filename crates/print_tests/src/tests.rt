@@ -1,6 +1,10 @@
+ghost use Rattle.std.specs.Prelude.{◌≡◌, length};
+
+use cfj_model::{Project, Selection};
 use cide_io::MemSink;
+use feature_views::project as variant_of;
 use fj_parser::parse_project;
-use fj_printer::print_project;
+use fj_printer::{print_plain, print_project, print_variant};
 use std::alloc::{AllocError, Global};
 use std::test::Fail;
 
@@ -178,5 +182,50 @@ fn a_print_stops_where_its_sink_fails(rt: HostRuntime) -> Result<(), Fail> {
         );
     }
     assert!(rt; failed > 2 && failed < 100);
+    Ok(())
+}
+
+/// Whether the variant of a selection is printed from its project as it is from its own copy.
+fn is_printed_as_copied(
+    alloc: Global,
+    project: &Project,
+    selection: &Selection,
+) -> Result<bool, AllocError>
+    requires { selection.now.features ≡ length project.now.model.features }
+{
+    let variant = variant_of(alloc, project, selection)?;
+    let mut from_project = MemSink::new(Vec::new(alloc));
+    let mut from_copy = MemSink::new(Vec::new(alloc));
+    let whole = print_variant(project, selection, &mut from_project).is_ok();
+    let copied = print_plain(&variant, &mut from_copy).is_ok();
+    let text = from_project.into_held();
+    let wanted = from_copy.into_held();
+    Ok(whole && copied && !text.is_empty() && text.as_slice() == wanted.as_slice())
+}
+
+/// A project whose first, last and only items of lists are present under some selections of its features.
+const COMBED: &str =
+    "features F,G;@F class A extends B{A(){super();}}class B extends A{@F C f;C g;@G C h;B(@F C f,C g,@G C h)\
+{super(@F f,g,@G h);@F this.f=f;this.g=g;@G this.h=h;}@F C m(@G D x){return x;}\
+D n(@F C x,@G C y){return new D(@F x,@G y,this.n(@G x.f,@F y),((C)x).m(@F@G y,x));}}";
+
+#[test]
+fn a_variant_is_printed_without_its_copy(rt: HostRuntime) -> Result<(), Fail> {
+    let alloc = rt.alloc();
+    for text in [CROWDED, COMBED] {
+        let Ok(project) = parse_project(alloc, text.as_bytes()) else {
+            assert!(rt; false, "the text isn't read");
+            return Ok(());
+        };
+        if project.model().features.slice().len() != 2 {
+            assert!(rt; false, "the features aren't read");
+            return Ok(());
+        }
+        let none = Selection::none(2);
+        let first = none.with(0);
+        for selection in [none, first, none.with(1), first.with(1)] {
+            assert!(rt; is_printed_as_copied(alloc, &project, &selection)?);
+        }
+    }
     Ok(())
 }

@@ -7,7 +7,7 @@ use Rattle.cfj_model.specs.Selections.{Chosen}
 use Rattle.cfj_model.specs.Validity.{IsValid, IsFirstFalse}
 use Rattle.cide_io.specs.Known.{Known, appended, IsCut}
 use Rattle.variant_export.specs.declared.variant.ExportFault.{ExportFault}
-use Rattle.variant_export.specs.declared.variant.ExportFault.TheVariants.{InvalidSelection, WriteFault, NoMemory}
+use Rattle.variant_export.specs.declared.variant.ExportFault.TheVariants.{InvalidSelection, WriteFault}
 
 -- what is printed of a product line under a selection
 abbrev pub variant_text : ProductLine → Chosen → List ℕ
@@ -19,4 +19,3 @@ abbrev pub IsExport : ProductLine → Chosen → Known → Known → Result Unit
 IsExport line s old new (Ok u) = IsValid line.model.constraints s × (new ≡ appended old (variant_text line s))
 IsExport line s old new (Err (InvalidSelection at)) = IsFirstFalse line.model.constraints s at × (new ≡ old)
 IsExport line s old new (Err WriteFault) = IsValid line.model.constraints s × IsCut old new (variant_text line s)
-IsExport line s old new (Err NoMemory) = new ≡ old

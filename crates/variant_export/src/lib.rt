@@ -1,6 +1,6 @@
 //! The variant of a valid selection, printed.
 //!
-//! Rests on `feature_model` for validity, `feature_views` for projection and `fj_printer` for the print.
+//! Rests on `feature_model` for validity and on `fj_printer` for the print.
 //! `specs/Exports.antt` says what an export comes to.
 #![tactic(auto)]
 

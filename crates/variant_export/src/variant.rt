@@ -5,9 +5,7 @@ ghost use Rattle.variant_export.specs.Exports.{IsExport};
 use cfj_model::{Project, Selection};
 use cide_io::Sink;
 use feature_model::{Failing, valid};
-use feature_views::project as variant_of;
-use fj_printer::print_plain;
-use std::alloc::Global;
+use fj_printer::print_variant;
 
 /// Why a variant isn't printed whole.
 #[derive(Clone, Copy, Debug, PartialEq, Eq)]
@@ -16,16 +14,14 @@ pub enum ExportFault {
     InvalidSelection(usize),
     /// The sink took no more.
     WriteFault,
-    /// There was no memory for the variant.
-    NoMemory,
 }
 
 /// Appends the printed form of the variant of a selection of the project's features to what a sink holds, where the selection
 /// is valid.
 ///
-/// Where it isn't, nothing is put. After a write fault the sink holds a proper prefix of the print behind what it held.
+/// Where it isn't, nothing is put. After a write fault the sink holds a proper prefix of the print behind what it held. No memory is
+/// taken.
 pub fn export<K: Sink>(
-    alloc: Global,
     project: &Project,
     selection: &Selection,
     sink: &mut K,
@@ -39,10 +35,7 @@ pub fn export<K: Sink>(
     if let Err(Failing(at)) = valid(project.model(), selection) {
         return Err(ExportFault::InvalidSelection(at));
     }
-    let Ok(variant) = variant_of(alloc, project, selection) else {
-        return Err(ExportFault::NoMemory);
-    };
-    match print_plain(&variant, sink) {
+    match print_variant(project, selection, sink) {
         Ok(()) => Ok(()),
         Err(_) => Err(ExportFault::WriteFault),
     }

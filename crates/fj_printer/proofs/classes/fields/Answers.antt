@@ -1,16 +1,34 @@
 use Rattle.std.proofs.Common.{arith, ap, sym, ◌∙◌}
+use Rattle.cfj_model.specs.declared.class.Field.{Field}
 use Rattle.cfj_model.specs.Print.{texts, field_text}
-use Rattle.fj_printer.proofs.Composing.{adds_more, adds_stopped}
-use Rattle.fj_printer.proofs.Lists.{texts_more, texts_there}
+use Rattle.fj_printer.specs.Shown.{names, shows, shown_fields}
+use Rattle.fj_printer.proofs.Composing.{adds_as, adds_more, adds_stopped}
+use Rattle.fj_printer.proofs.Lists.{kept_same, kept_texts_more, kept_texts_there}
 use Rattle.fj_printer.proofs.classes.fields.Goals as goal
+use Rattle.fj_printer.proofs.classes.fields.Goals.{then-shows+in_ok-field, else-shows}
 
 pub returns-in_err-field : goal.returns-in_err-field
 returns-in_err-field g c =
+    let view = c.args.showing.now in
     adds_stopped _ c.from_residual.result c.from_residual.ensures.0 c.fields.invariant c.in_err-field.ensures
-    (ap (texts (field_text c.args.features.now)) (sym c.slice-list.ensures)
-    ∙ texts_there (field_text c.args.features.now) c.slice-list.result.now c.fields.item-index _ _ (omega arith) (ap (field_text c.args.features.now) c.item-item.is))
+    (ap (λ list. texts (field_text (names view)) (shown_fields view list)) (sym c.slice-list.ensures)
+    ∙ kept_texts_there (field_text (names view)) (λ (x : Field). shows view x.colors) c.slice-list.result.now c.fields.item-index c.item-item.result (omega arith) c.item-item.is
+    (sym c.shows.ensures ∙ c.if-shows.true))
 
 pub fields-preserved : goal.fields-preserved
 fields-preserved g c =
-    adds_more c.fields.invariant c.in_ok-field.ensures
-    (texts_more (field_text c.args.features.now) c.slice-list.result.now c.fields.item-index _ _ (omega arith) (ap (field_text c.args.features.now) c.item-item.is))
+    let view = c.args.showing.now in
+    elim c.if-shows.branch [
+      | then-shows+in_ok-field w ↦
+          rw (w.buffer-is, w.sink-is)
+          (adds_more c.fields.invariant w.in_ok-field.ensures
+          (kept_texts_more (field_text (names view)) (λ (x : Field). shows view x.colors) c.slice-list.result.now c.fields.item-index c.item-item.result (omega arith) c.item-item.is
+          (sym c.shows.ensures ∙ w.if-shows.true)))
+      | else-shows w ↦
+          rw (w.buffer-is, w.sink-is)
+          (adds_as
+          (ap (texts (field_text (names view)))
+          (kept_same (λ (x : Field). shows view x.colors) c.slice-list.result.now c.fields.item-index c.item-item.result (omega arith) c.item-item.is
+          (sym c.shows.ensures ∙ w.if-shows.false)))
+          c.fields.invariant)
+    ]

@@ -3,6 +3,7 @@ use denote.Shadow.{shadow}
 use Rattle.std.proofs.Common.{◌≡◌, take, Ok}
 use Rattle.cfj_model.specs.Print.{joined, param_text}
 use Rattle.fj_printer.specs.Adds.{Adds}
+use Rattle.fj_printer.specs.Shown.{names, shown_params}
 use Rattle.fj_printer.proofs.Lists.{separator}
 use Rattle.fj_printer.proofs.ctors.params.Given as goal
 
@@ -10,8 +11,8 @@ abbrev pub invariant-params : goal.invariant-params
 invariant-params g l =
     record {
       utf8 : shadow (Utf8 l.separator);
-      between : l.separator ≡ separator (take l.item-index l.list);
+      between : l.separator ≡ separator (shown_params l.showing (take l.item-index l.list));
       adds : Adds g.K.Sink.held g.K.Sink.name g.K.Sink.faults l.fn.sink l.fn.buffer l.sink l.buffer
-          (joined (param_text l.features) (take l.item-index l.list))
+          (joined (param_text (names l.showing)) (shown_params l.showing (take l.item-index l.list)))
           (Ok tt);
     }

@@ -1,16 +1,34 @@
 use Rattle.std.proofs.Common.{arith, ap, sym, ◌∙◌}
-use Rattle.cfj_model.specs.Print.{texts, method_text}
-use Rattle.fj_printer.proofs.Composing.{adds_more, adds_stopped}
-use Rattle.fj_printer.proofs.Lists.{texts_more, texts_there}
+use Rattle.cfj_model.specs.declared.class.Method.{Method}
+use Rattle.cfj_model.specs.Print.{texts}
+use Rattle.fj_printer.specs.Shown.{shows, shown_methods, shown_method_text}
+use Rattle.fj_printer.proofs.Composing.{adds_as, adds_more, adds_stopped}
+use Rattle.fj_printer.proofs.Lists.{kept_same, kept_texts_more, kept_texts_there}
 use Rattle.fj_printer.proofs.methods.methods.Goals as goal
+use Rattle.fj_printer.proofs.methods.methods.Goals.{then-shows+in_ok-method, else-shows}
 
 pub returns-in_err-method : goal.returns-in_err-method
 returns-in_err-method g c =
+    let view = c.args.showing.now in
     adds_stopped _ c.from_residual.result c.from_residual.ensures.0 c.methods.invariant c.in_err-method.ensures
-    (ap (texts (method_text c.args.features.now)) (sym c.slice-list.ensures)
-    ∙ texts_there (method_text c.args.features.now) c.slice-list.result.now c.methods.item-index _ _ (omega arith) (ap (method_text c.args.features.now) c.item-item.is))
+    (ap (λ list. texts (shown_method_text view) (shown_methods view list)) (sym c.slice-list.ensures)
+    ∙ kept_texts_there (shown_method_text view) (λ (x : Method). shows view x.colors) c.slice-list.result.now c.methods.item-index c.item-item.result (omega arith) c.item-item.is
+    (sym c.shows.ensures ∙ c.if-shows.true))
 
 pub methods-preserved : goal.methods-preserved
 methods-preserved g c =
-    adds_more c.methods.invariant c.in_ok-method.ensures
-    (texts_more (method_text c.args.features.now) c.slice-list.result.now c.methods.item-index _ _ (omega arith) (ap (method_text c.args.features.now) c.item-item.is))
+    let view = c.args.showing.now in
+    elim c.if-shows.branch [
+      | then-shows+in_ok-method w ↦
+          rw (w.buffer-is, w.sink-is)
+          (adds_more c.methods.invariant w.in_ok-method.ensures
+          (kept_texts_more (shown_method_text view) (λ (x : Method). shows view x.colors) c.slice-list.result.now c.methods.item-index c.item-item.result (omega arith) c.item-item.is
+          (sym c.shows.ensures ∙ w.if-shows.true)))
+      | else-shows w ↦
+          rw (w.buffer-is, w.sink-is)
+          (adds_as
+          (ap (texts (shown_method_text view))
+          (kept_same (λ (x : Method). shows view x.colors) c.slice-list.result.now c.methods.item-index c.item-item.result (omega arith) c.item-item.is
+          (sym c.shows.ensures ∙ w.if-shows.false)))
+          c.methods.invariant)
+    ]

@@ -1,12 +1,7 @@
-use Rattle.std.proofs.Common.{refl, sym, append-nil}
-use Rattle.cfj_model.specs.Print.{plain_printed}
-use Rattle.fj_printer.proofs.Composing.{all_flushed, all_failed}
+use Rattle.std.proofs.Common.{[]}
+use Rattle.fj_printer.proofs.Composing.{added_as}
+use Rattle.fj_printer.proofs.Parts.{all_classes}
 use Rattle.fj_printer.proofs.project.print_plain.Goals as goal
 
-pub returns-in_err-classes-clause-text : goal.returns-in_err-classes-clause-text
-returns-in_err-classes-clause-text g c =
-    all_failed _ c.from_residual.result c.from_residual.ensures.0 c.new-buffer.ensures c.in_err-classes.ensures
-    (sym (append-nil (plain_printed c.args.project.now.classes)))
-
 pub returns-clause-text : goal.returns-clause-text
-returns-clause-text g c = all_flushed c.flush.result c.new-buffer.ensures c.flush.ensures.empty c.in_ok-classes.ensures c.flush.ensures.adds refl
+returns-clause-text g c = added_as _ _ c.print_classes.result (all_classes [] c.args.project.now.classes) c.print_classes.ensures.text

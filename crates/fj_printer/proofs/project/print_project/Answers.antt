@@ -1,18 +1,25 @@
-use Rattle.std.proofs.Common.{◌≡◌, refl, ℕ, List, ◌++◌, ap, sym, ◌∙◌, append-nil}
+use Rattle.std.proofs.Common.{◌≡◌, refl, ℕ, true, List, ◌++◌, ap, sym, ◌∙◌, append-nil}
 use Rattle.std.proofs.lemmas.List.{append_assoc}
+use Rattle.std.specs.List.{filter}
+use Rattle.cfj_model.specs.declared.class.Class.{Class}
 use Rattle.cfj_model.specs.declared.feature_model.FeatureModel.{FeatureModel}
 use Rattle.cfj_model.specs.declared.formula.Formula.{Formula}
 use Rattle.cfj_model.specs.Print.{texts, constraint_text, class_text, features_text, printed}
 use Rattle.cfj_model.specs.ProductLines.{ProductLine}
 use Rattle.fj_printer.proofs.Composing.{adds_then, all_flushed, all_failed}
+use Rattle.fj_printer.proofs.Parts.{all_classes}
 use Rattle.fj_printer.proofs.project.print_project.Goals as goal
 
+abbrev shown_text : List (List ℕ) → List Class → List ℕ
+shown_text features classes = texts (class_text features) (filter (λ _. true) classes)
+
 printed_is : (line : ProductLine) (model : FeatureModel) (features : List (List ℕ)) (constraints : List Formula) → model ≡ line.model → features ≡ model.features → constraints ≡ model.constraints →
-    printed line ≡ features_text features ++ (texts (constraint_text features) constraints ++ texts (class_text features) line.classes)
+    printed line ≡ features_text features ++ (texts (constraint_text features) constraints ++ shown_text features line.classes)
 printed_is line model features constraints m f k =
     ap (λ (w : FeatureModel). features_text w.features ++ (texts (constraint_text w.features) w.constraints ++ texts (class_text w.features) line.classes)) (sym m)
     ∙ ap (λ fs. features_text fs ++ (texts (constraint_text fs) model.constraints ++ texts (class_text fs) line.classes)) (sym f)
     ∙ ap (λ ks. features_text features ++ (texts (constraint_text features) ks ++ texts (class_text features) line.classes)) (sym k)
+    ∙ ap (λ w. features_text features ++ (texts (constraint_text features) constraints ++ w)) (all_classes features line.classes)
 
 pub returns-in_err-feature_line-clause-text : goal.returns-in_err-feature_line-clause-text
 returns-in_err-feature_line-clause-text g c =
@@ -25,7 +32,7 @@ returns-in_err-constraint_lines-clause-text g c =
     let is = printed_is c.args.project.now c.model-model.result.now c.slice-features.result.now c.slice.result.now c.model-model.ensures.model c.slice-features.ensures c.slice.ensures in
     all_failed _ c.from_residual-in_err-constraint_lines.result c.from_residual-in_err-constraint_lines.ensures.0 c.new-buffer.ensures
     (adds_then c.in_ok-feature_line.ensures c.in_err-constraint_lines.ensures)
-    (is ∙ sym (append_assoc (features_text features) (texts (constraint_text features) c.slice.result.now) (texts (class_text features) c.args.project.now.classes)))
+    (is ∙ sym (append_assoc (features_text features) (texts (constraint_text features) c.slice.result.now) (shown_text features c.args.project.now.classes)))
 
 pub returns-in_err-classes-clause-text : goal.returns-in_err-classes-clause-text
 returns-in_err-classes-clause-text g c =

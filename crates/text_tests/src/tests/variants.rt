@@ -1,5 +1,6 @@
 //! Projects with features: which variant is printed, and which names are refused.
-use super::{REFUSED_MARKS, export, is_line, is_refused_behind};
+use super::texts::REFUSED_MARKS;
+use super::{export, is_line, is_refused_behind};
 use std::alloc::{AllocError, Global};
 use std::test::Fail;
 

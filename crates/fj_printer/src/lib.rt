@@ -1,9 +1,11 @@
-//! Prints a product line, a plain one or a class into a sink.
+//! Prints a product line, a plain one, the variant of a selection or a class into a sink.
 //!
-//! Rests on `cfj_model`, whose `specs/Print.antt` says what the printed form is, and on `cide_io`'s [`Sink`]. Every function
-//! of this layer promises the same of its own part of that form: after `Ok` exactly the part went behind what came before,
-//! and after a failure the sink holds a proper prefix of it. Pieces are gathered in a buffer of a fixed size, so that a
-//! stream is given few and large ones. No memory is taken.
+//! Rests on `cfj_model`, whose `specs/Print.antt` says what the printed form is and whose `specs/Projection.antt` says what a
+//! variant is, on `feature_views` for the laws of what is present inside a present class, and on `cide_io`'s [`Sink`]. One
+//! set of functions prints all nodes with their marks, or the present ones without (`Showing`). Each of them promises the same
+//! of its own part of the printed form: after `Ok` exactly the part went behind what came before, and after a failure the sink
+//! holds a proper prefix of it. Pieces are gathered in a buffer of a fixed size, so that a stream is given few and large ones.
+//! No memory is taken.
 //!
 //! [`Sink`]: cide_io::Sink
 #![tactic(auto)]

@@ -9,31 +9,29 @@ use Rattle.fj_printer.proofs.ctors.params.Goals.{then-shows+in_ok-param, else-sh
 
 pub returns-in_err-param : goal.returns-in_err-param
 returns-in_err-param g c =
-    let view = c.args.showing.now in
     adds_stopped _ c.from_residual.result c.from_residual.ensures.0 c.params.invariant.adds c.in_err-param.ensures
-    (ap (λ list. joined (param_text (names view)) (shown_params view list)) (sym c.slice-list.ensures)
-    ∙ kept_joined_there (param_text (names view)) (λ (x : Param). shows view x.colors) c.slice-list.result.now c.params.item-index c.item-item.result (omega arith) c.item-item.is
+    (ap (λ list. joined (param_text (names c.args.showing.now)) (shown_params c.args.showing.now list)) (sym c.slice-list.ensures)
+    ∙ kept_joined_there (param_text (names c.args.showing.now)) (λ (x : Param). shows c.args.showing.now x.colors) c.slice-list.result.now c.params.item-index c.item-item.result (omega arith) c.item-item.is
     (sym c.shows.ensures ∙ c.if-shows.true) _ c.params.invariant.between)
 
 pub params-preserved : goal.params-preserved
 params-preserved g c =
-    let view = c.args.showing.now in
     elim c.if-shows.branch [
       | then-shows+in_ok-param w ↦
           rw (w.buffer-is, w.sink-is, w.separator-is)
           (record {
             utf8 = search rules;
-            between = kept_separator (λ (x : Param). shows view x.colors) c.slice-list.result.now c.params.item-index c.item-item.result (omega arith) c.item-item.is (sym c.shows.ensures ∙ w.if-shows.true);
+            between = kept_separator (λ (x : Param). shows c.args.showing.now x.colors) c.slice-list.result.now c.params.item-index c.item-item.result (omega arith) c.item-item.is (sym c.shows.ensures ∙ w.if-shows.true);
             adds = adds_more c.params.invariant.adds w.in_ok-param.ensures
-                (kept_joined_more (param_text (names view)) (λ (x : Param). shows view x.colors) c.slice-list.result.now c.params.item-index c.item-item.result (omega arith) c.item-item.is
+                (kept_joined_more (param_text (names c.args.showing.now)) (λ (x : Param). shows c.args.showing.now x.colors) c.slice-list.result.now c.params.item-index c.item-item.result (omega arith) c.item-item.is
                 (sym c.shows.ensures ∙ w.if-shows.true) _ c.params.invariant.between);
           })
       | else-shows w ↦
-          let same = kept_same (λ (x : Param). shows view x.colors) c.slice-list.result.now c.params.item-index c.item-item.result (omega arith) c.item-item.is (sym c.shows.ensures ∙ w.if-shows.false) in
+          let same = kept_same (λ (x : Param). shows c.args.showing.now x.colors) c.slice-list.result.now c.params.item-index c.item-item.result (omega arith) c.item-item.is (sym c.shows.ensures ∙ w.if-shows.false) in
           rw (w.buffer-is, w.sink-is, w.separator-is)
           (record {
             utf8 = c.params.invariant.utf8;
             between = c.params.invariant.between ∙ ap separator (sym same);
-            adds = adds_as (ap (joined (param_text (names view))) same) c.params.invariant.adds;
+            adds = adds_as (ap (joined (param_text (names c.args.showing.now))) same) c.params.invariant.adds;
           })
     ]

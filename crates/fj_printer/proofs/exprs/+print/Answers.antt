@@ -89,30 +89,28 @@ argument-returns g t c =
 
 pub arguments-returns-in_err-argument : goal.arguments-returns-in_err-argument
 arguments-returns-in_err-argument g t c =
-    let view = c.args.showing.now in
     adds_stopped _ c.from_residual.result c.from_residual.ensures.0 c.each.invariant.adds c.in_err-argument.ensures
-    (kept_joined_there (shown_arg_text view) (λ (x : Arg). shows view x.colors) c.args.args.now c.each.item-index c.item-item.result (omega arith) c.item-item.is
+    (kept_joined_there (shown_arg_text c.args.showing.now) (λ (x : Arg). shows c.args.showing.now x.colors) c.args.args.now c.each.item-index c.item-item.result (omega arith) c.item-item.is
     (sym c.shows.ensures ∙ c.if-shows.true) _ c.each.invariant.between)
 
 pub arguments-each-preserved : goal.arguments-each-preserved
 arguments-each-preserved g t c =
-    let view = c.args.showing.now in
     elim c.if-shows.branch [
       | arguments-then-shows+in_ok-argument w ↦
           rw (w.buffer-is, w.sink-is, w.separator-is)
           (record {
             utf8 = search rules;
-            between = kept_separator (λ (x : Arg). shows view x.colors) c.args.args.now c.each.item-index c.item-item.result (omega arith) c.item-item.is (sym c.shows.ensures ∙ w.if-shows.true);
+            between = kept_separator (λ (x : Arg). shows c.args.showing.now x.colors) c.args.args.now c.each.item-index c.item-item.result (omega arith) c.item-item.is (sym c.shows.ensures ∙ w.if-shows.true);
             adds = adds_more c.each.invariant.adds w.in_ok-argument.ensures
-                (kept_joined_more (shown_arg_text view) (λ (x : Arg). shows view x.colors) c.args.args.now c.each.item-index c.item-item.result (omega arith) c.item-item.is
+                (kept_joined_more (shown_arg_text c.args.showing.now) (λ (x : Arg). shows c.args.showing.now x.colors) c.args.args.now c.each.item-index c.item-item.result (omega arith) c.item-item.is
                 (sym c.shows.ensures ∙ w.if-shows.true) _ c.each.invariant.between);
           })
       | arguments-else-shows w ↦
-          let same = kept_same (λ (x : Arg). shows view x.colors) c.args.args.now c.each.item-index c.item-item.result (omega arith) c.item-item.is (sym c.shows.ensures ∙ w.if-shows.false) in
+          let same = kept_same (λ (x : Arg). shows c.args.showing.now x.colors) c.args.args.now c.each.item-index c.item-item.result (omega arith) c.item-item.is (sym c.shows.ensures ∙ w.if-shows.false) in
           rw (w.buffer-is, w.sink-is, w.separator-is)
           (record {
             utf8 = c.each.invariant.utf8;
             between = c.each.invariant.between ∙ ap separator (sym same);
-            adds = adds_as (ap (joined (shown_arg_text view)) same) c.each.invariant.adds;
+            adds = adds_as (ap (joined (shown_arg_text c.args.showing.now)) same) c.each.invariant.adds;
           })
     ]

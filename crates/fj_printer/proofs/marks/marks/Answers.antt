@@ -6,10 +6,9 @@ use Rattle.fj_printer.proofs.marks.marks.Goals as goal
 
 pub returns-in_err-mark : goal.returns-in_err-mark
 returns-in_err-mark g c =
-    let features = c.features-features.result.now in
     adds_stopped _ c.from_residual.result c.from_residual.ensures.0 c.features.invariant c.in_err-mark.ensures
     (ap (λ names. marks_text names c.args.colors) (sym c.features-features.ensures)
-    ∙ marks_there features c.args.colors c.features.number _ (omega arith) c.index-features-number.is)
+    ∙ marks_there c.features-features.result.now c.args.colors c.features.number _ (omega arith) c.index-features-number.is)
 
 pub features-preserved : goal.features-preserved
 features-preserved g c =
@@ -18,7 +17,6 @@ features-preserved g c =
 
 pub returns : goal.returns
 returns g c =
-    let features = c.features-features.result.now in
     adds_as
-    (ap (λ names. marks_text names c.args.colors) (sym c.features-features.ensures) ∙ sym (marks_whole features c.args.colors c.features.number (omega arith)))
+    (ap (λ names. marks_text names c.args.colors) (sym c.features-features.ensures) ∙ sym (marks_whole c.features-features.result.now c.args.colors c.features.number (omega arith)))
     c.features.invariant

@@ -10,17 +10,21 @@ set -eu
 
 . "$(dirname "$(readlink -f "${BASH_SOURCE[0]}")")/timing.sh"
 
+# the interpreter itself, so that no launcher in front of it is timed
+python=$(python3 -c 'import sys; print(sys.executable)')
 python_words='import sys; text = open(sys.argv[1], encoding="utf-8").read(); sys.stdout.write(" ".join(text.split()))'
 
-# a number of classes, which is a size, with so many features, under these names; with methods where a fourth word stands, and only
-# read where a fifth does
+# makes the project of so many classes, which is a size, with so many features; with methods where a third word stands, and one that
+# is only read where a fourth does
+make_project() {
+    python3 "$top/bench/make_project.py" "$1" "$(($1 * 4096))" "$2" ${3:+"$3"} ${4:+"$4"} >"$work/project.$1"
+}
+
+# times one export of the size under these names, and one run of Python
 measure() {
     local file=$work/project.$1
-    python3 "$top/bench/make_project.py" "$1" "$(($1 * 4096))" "$2" ${4:+"$4"} ${5:+"$5"} >"$file"
-    times[$1]=$(best_of "$program" export "$file" "$3")
-    python_times[$1]=$(best_of python3 -c "$python_words" "$file")
-    printf '%5d classes, %3d features, %8d bytes: export %7d us, python %7d us\n' \
-        "$1" "$2" "$(stat -c %s "$file")" "${times[$1]}" "${python_times[$1]}"
+    times[$1]=$(least "${times[$1]}" "$(time_of "$program" export "$file" "$2")")
+    python_times[$1]=$(least "${python_times[$1]}" "$(time_of "$python" -c "$python_words" "$file")")
 }
 
 # the number of calls of this kind that an export makes
@@ -38,9 +42,21 @@ count_calls() {
     check "one write for each 4 KiB, and ten" "$(calls write "$file" "$1")" $(($(stat -c %s "$work/written") / 4096 + 11))
 }
 
-# the three sizes with so many features, under these names; with methods where a third word stands, and only read where a fourth does
+# the three sizes with so many features, under these names; with methods where a third word stands, and only read where a fourth does.
+# The sizes take turns, so that a slow spell of the machine falls on all of them alike.
 measure_sizes() {
-    for classes in 256 512 1024; do measure "$classes" "$1" "$2" ${3:+"$3"} ${4:+"$4"}; done
+    local sizes=(256 512 1024) classes
+    for classes in "${sizes[@]}"; do
+        make_project "$classes" "$1" ${3:+"$3"} ${4:+"$4"}
+        times[$classes]="" python_times[$classes]=""
+    done
+    for _ in $(seq "$runs"); do
+        for classes in "${sizes[@]}"; do measure "$classes" "$2"; done
+    done
+    for classes in "${sizes[@]}"; do
+        printf '%5d classes, %3d features, %8d bytes: export %7d us, python %7d us\n' \
+            "$classes" "$1" "$(stat -c %s "$work/project.$classes")" "${times[$classes]}" "${python_times[$classes]}"
+    done
     check "the whole takes at most 5 times the quarter" "${times[1024]}" $((5 * times[256]))
     check "the whole takes at most what python takes" "${times[1024]}" "${python_times[1024]}"
 }

@@ -7,15 +7,23 @@ work=$(mktemp -d)
 trap 'rm -rf "$work"' EXIT
 failed=0
 
+# the time in microseconds that a command takes once
+time_of() {
+    local began
+    began=$(date +%s%N)
+    "$@" >"$work/written" 2>"$work/said" || true
+    echo $((($(date +%s%N) - began) / 1000))
+}
+
+# the lesser of two times, of which the first may be missing
+least() {
+    if [ -z "$1" ] || [ "$2" -lt "$1" ]; then echo "$2"; else echo "$1"; fi
+}
+
 # the least time in microseconds that a command took
 best_of() {
-    local best="" began took
-    for _ in $(seq "$runs"); do
-        began=$(date +%s%N)
-        "$@" >"$work/written" 2>"$work/said" || true
-        took=$((($(date +%s%N) - began) / 1000))
-        if [ -z "$best" ] || [ "$took" -lt "$best" ]; then best=$took; fi
-    done
+    local best=""
+    for _ in $(seq "$runs"); do best=$(least "$best" "$(time_of "$@")"); done
     echo "$best"
 }
 

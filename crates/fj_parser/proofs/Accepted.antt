@@ -10,7 +10,7 @@ use Rattle.cfj_model.specs.Tokens.{Token}
 use Rattle.expression_reader.specs.declared.roles.Settling.{Settling}
 use Rattle.expression_reader.specs.declared.roles.Settling.TheVariants.{Stays, Bracket, Cast}
 use Rattle.expression_reader.specs.Machine as expression
-use Rattle.fj_parser.specs.Accepting.{BreaksAt, IsAccepted, IsRefused, settled, waiting, misplaced, IsBrokenAt, AreCounted, IsTaken, IsToldAt, OwnFault, broken, stuck, OwnTaken}
+use Rattle.fj_parser.specs.Accepting.{BreaksAt, IsRefused, settled, waiting, misplaced, IsBrokenAt, AreCounted, IsTaken, IsToldAt, OwnFault, broken, stuck, OwnTaken}
 use Rattle.fj_parser.specs.Machine.{State, emitted, pending, role, settles, waits}
 use Rattle.fj_parser.specs.GoalViews.{GoesFor, reader_of}
 use Rattle.fj_parser.specs.Goals.{step_for}

@@ -16,7 +16,7 @@ use Rattle.fj_parser.specs.declared.goal.Goal.TheVariants as goal
 use Rattle.fj_parser.specs.declared.mode.Mode.{Mode}
 use Rattle.fj_parser.specs.declared.mode.Mode.TheVariants.{InMembers, AfterType, InMethods, InExpression, AtEnd}
 use Rattle.fj_parser.specs.Goals.{step_for, takes_name_for, reader_for}
-use Rattle.fj_parser.specs.Machine.{unnamed, State, pending, pending_in, emitted, reader, run}
+use Rattle.fj_parser.specs.Machine.{State, pending, pending_in, emitted, reader, run}
 use Rattle.fj_parser.specs.Readers.{Run, with_roles, then_run, run_of}
 use Rattle.fj_parser.proofs.Closing.{Reaches}
 use Rattle.fj_parser.proofs.Complete.{same_name}

@@ -1,5 +1,5 @@
 -- No more is in hand than what was counted, where a part is read by itself.
-use Rattle.std.proofs.Common.{◌≡◌, ℕ, ◌≤◌, Bool, true, false, List, [], ◌∷◌, ◌++◌, length, Option, Some, None, IfSome, refl, sym, ap, subst, ◌∙◌, arith, cond}
+use Rattle.std.proofs.Common.{◌≡◌, ℕ, ◌≤◌, Bool, true, false, List, [], ◌∷◌, ◌++◌, length, Option, None, IfSome, refl, sym, ap, subst, ◌∙◌, arith, cond}
 use Rattle.std.proofs.lemmas.Bool.{leb-true}
 use Rattle.std.specs.Prelude.{nat_le}
 use Rattle.std.specs.Str.{bytes_eq}
@@ -7,13 +7,13 @@ use Rattle.cfj_model.specs.declared.class.Class.{Class}
 use Rattle.cfj_model.specs.declared.class.Field.{Field}
 use Rattle.cfj_model.specs.declared.class.Method.{Method}
 use Rattle.cfj_model.specs.ProductLines.{most_features}
-use Rattle.cfj_model.specs.Roles.{Role, Tally, plain, tallied, AreWithin}
+use Rattle.cfj_model.specs.Roles.{Tally, plain, tallied, AreWithin}
 use Rattle.cfj_model.specs.Tokens.{Token, Id, ClassWord, OpenParen, Semicolon, At, End}
 use Rattle.expression_reader.specs.Machine as expression
 use Rattle.expression_reader.specs.declared.mode.Mode as reading
 use Rattle.expression_reader.specs.declared.mode.Mode.TheVariants as at
 use Rattle.fj_parser.specs.Accepting.{IsAccepted}
-use Rattle.fj_parser.specs.Counting.{Place, before_class, before_method, before_body, in_body, place_of, InHand, in_hand, IsEmptyAt, IsCounted, Counted}
+use Rattle.fj_parser.specs.Counting.{Place, before_class, before_method, before_body, in_body, place_of, in_hand, IsEmptyAt, IsCounted, Counted}
 use Rattle.fj_parser.specs.Goals.{start_for, begins_member, ends, class_or_end, field_or_end, method_or_end, member_or_end, step_for, reader_for}
 use Rattle.fj_parser.specs.Languages.{with_features}
 use Rattle.fj_parser.specs.Machine.{State, emitted, step_in, token_role}
@@ -21,7 +21,7 @@ use Rattle.fj_parser.specs.declared.goal.Goal.{Goal}
 use Rattle.fj_parser.specs.declared.goal.Goal.TheVariants as goal
 use Rattle.fj_parser.specs.declared.mode.Mode.{Mode}
 use Rattle.fj_parser.specs.declared.mode.Mode.TheVariants.{Begin, Start, BetweenClasses, InMembers, AfterType, InMethods, AfterMethodName, InExpression, AfterBody}
-use Rattle.fj_parser.proofs.Counted.{body_begun, counted_in, counted_start}
+use Rattle.fj_parser.proofs.Counted.{body_begun, counted_in}
 
 -- the state that a step reaches, if there is one, has no more in hand than was counted with this token
 abbrev CountedBehind : Mode → State → Tally → Token → Option State → Type 0

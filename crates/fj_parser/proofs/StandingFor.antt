@@ -1,5 +1,5 @@
 -- A reader of a language reads the same texts to values that are made of its own.
-use Rattle.std.proofs.Common.{◌≡◌, List, ap}
+use Rattle.std.proofs.Common.{List, ap}
 use Rattle.cfj_model.specs.Faults.{Language}
 use Rattle.cfj_model.specs.Roles.{Role}
 use Rattle.cfj_model.specs.Tokens.{Token}

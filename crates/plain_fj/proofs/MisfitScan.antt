@@ -6,8 +6,8 @@ use Rattle.cfj_model.specs.LookUps.{Table, is_subtype}
 use Rattle.cfj_model.specs.Judging.{Pair, misfits}
 use Rattle.cfj_model.specs.declared.expr.Arg.{Arg}
 use Rattle.cfj_model.specs.declared.site.Rule.{Rule}
-use Rattle.plain_fj.specs.Breaking.{Adds, broken, told}
-use Rattle.plain_fj.specs.Found.{at_nodes, at_roots, names, slot_of}
+use Rattle.plain_fj.specs.Breaking.{Adds, told}
+use Rattle.plain_fj.specs.Found.{at_nodes, at_roots, names}
 use Rattle.plain_fj.specs.declared.body.Body.{Body}
 use Rattle.plain_fj.specs.declared.site_break.Break.{Break}
 use Rattle.plain_fj.proofs.Broken.{broken_append}

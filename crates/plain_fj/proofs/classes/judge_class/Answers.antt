@@ -1,4 +1,4 @@
-use Rattle.std.proofs.Common.{not, [], ◌∷◌, ◌++◌, sym, ◌∙◌, ap}
+use Rattle.std.proofs.Common.{not, [], ◌∷◌, ◌++◌, ◌∙◌, ap}
 use Rattle.std.specs.List.{flat_map, list_any}
 use Rattle.std.specs.Str.{bytes_eq}
 use Rattle.cfj_model.specs.Judging.{extends_itself, judged_at, judged_ctor, judged_field, judged_method}

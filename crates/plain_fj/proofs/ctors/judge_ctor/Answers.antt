@@ -1,4 +1,4 @@
-use Rattle.std.proofs.Common.{not, map, [], ◌∷◌, sym, ◌∙◌, ap}
+use Rattle.std.proofs.Common.{not, map, [], ◌∷◌, ◌∙◌, ap}
 use Rattle.std.specs.List.{flat_map}
 use Rattle.cfj_model.specs.Judging.{are_same, judged_at, takes_fields}
 use Rattle.cfj_model.specs.LookUps.{all_fields, fields_of}

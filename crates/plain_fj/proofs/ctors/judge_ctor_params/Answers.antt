@@ -1,4 +1,3 @@
-use Rattle.std.proofs.Common.{not, [], ◌∷◌, sym, ap}
 use Rattle.plain_fj.specs.Breaking.{judged_ctor_param}
 use Rattle.plain_fj.proofs.Broken.{added_all_read, added_more, drop_item}
 use Rattle.plain_fj.proofs.ctors.judge_ctor_params.Goals as goal

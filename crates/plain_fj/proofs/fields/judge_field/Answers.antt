@@ -1,4 +1,4 @@
-use Rattle.std.proofs.Common.{not, is_some, [], ◌∷◌, sym, ◌∙◌, ap}
+use Rattle.std.proofs.Common.{not, is_some, [], ◌∷◌, ◌∙◌, ap}
 use Rattle.std.specs.List.{list_any}
 use Rattle.cfj_model.specs.Judging.{judged_at}
 use Rattle.cfj_model.specs.LookUps.{ancestors, field_called, is_known}

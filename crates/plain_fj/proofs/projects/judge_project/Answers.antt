@@ -1,4 +1,4 @@
-use Rattle.std.proofs.Common.{◌≤◌, [], length, arith, ap, ◌∙◌, ◌++◌, map}
+use Rattle.std.proofs.Common.{◌≤◌, [], length, arith, ◌∙◌}
 use Rattle.cfj_model.specs.Judging.{judged_class}
 use Rattle.plain_fj.proofs.Broken.{added_more, added_all, all_judged, class_of_table, drop_get}
 use Rattle.plain_fj.proofs.projects.judge_project.Goals as goal

@@ -56,7 +56,7 @@ impl ExpressionReader {
         let mode = mem::replace(&mut self.mode, Mode::Begin);
         match self.next_mode(alloc, features, mode, symbol)? {
             Some(next) => {
-                self.mode = next;
+                mem::drop(mem::replace(&mut self.mode, next));
                 Ok(true)
             }
             None => Ok(false),
@@ -116,7 +116,10 @@ impl ExpressionReader {
         } = self;
         match mode {
             Mode::Done(x) => Some(x),
-            _ => None,
+            other => {
+                mem::drop(other);
+                None
+            }
         }
     }
 }

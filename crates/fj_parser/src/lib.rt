@@ -25,6 +25,7 @@ mod parser;
 mod part;
 mod passage;
 mod reading;
+mod results;
 mod role;
 mod settle;
 mod waiting;

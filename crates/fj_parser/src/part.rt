@@ -90,6 +90,13 @@ impl<'a> Part<'a> {
         }
     }
 
+    /// The machine before the first token, in memory of its own.
+    pub fn boxed(self, alloc: Global) -> Result<Box<Machine<'a>>, AllocError>
+        ensures { IfOk result (λ machine. machine_seen machine.value ≡ start_for self.entry.goal self.entry.features.now self.entry.class.now) }
+    {
+        Ok(Box::new(alloc, self.machine(alloc)?)?)
+    }
+
     fn begin(self, alloc: Global, mode: Mode, name: &'a str) -> Result<Machine<'a>, AllocError>
         requires { is_name name.now ≡ true }
         ensures { IfOk result (λ machine. machine_seen machine ≡ record (behind self.entry.features.now [] []) { mode = mode; name = name.entry.now }) }

@@ -154,12 +154,12 @@ pub fn read_text<'a>(
     alloc: Global,
     part: Part<'a>,
     text: &'a str,
-) -> Result<Machine<'a>, ParseFault>
+) -> Result<Box<Machine<'a>>, ParseFault>
     requires { SettlesEach (reader_of part) }
-    ensures read { IfOk result (λ machine. IsReadTo (met_of part.entry) (reader_of part.entry) text.entry.now (machine_seen machine)) }
+    ensures read { IfOk result (λ machine. IsReadTo (met_of part.entry) (reader_of part.entry) text.entry.now (machine_seen machine.value)) }
     ensures fault { (at : ℕ) (kind : _) → result ≡ Err (ParseFault.At at kind) → IsStopped (met_of part.entry) (reader_of part.entry) text.entry.now at kind }
 {
-    let mut machine = part.machine(alloc)?;
+    let mut machine = part.boxed(alloc)?;
     read_on(alloc, part, text, &mut machine)?;
     Ok(machine)
 }

@@ -1,3 +1,5 @@
+//! The reader of an expression.
+
 ghost use Rattle.std.specs.Prelude.{◌≡◌, ◌+◌, ◌≤◌, ◌<◌, ◌^◌, true, IfOk, length};
 ghost use Rattle.expression_reader.specs.Machine as machine;
 ghost use Rattle.expression_reader.specs.Views.{reader_seen, moved, settles_short, Goes, IsRoomy};

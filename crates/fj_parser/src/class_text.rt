@@ -1,3 +1,5 @@
+//! The text of a class.
+
 ghost use Rattle.std.specs.Prelude.{◌≡◌, ℕ, true, nat_le, length, IfOk, Err};
 ghost use Rattle.cfj_model.specs.declared.class.Class.{Class};
 ghost use Rattle.cfj_model.specs.Faults.{single_classes, IsFirstFault, IsTextOf};

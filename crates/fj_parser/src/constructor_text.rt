@@ -1,3 +1,5 @@
+//! The text of a constructor.
+
 ghost use Rattle.std.specs.Prelude.{◌≡◌, ℕ, true, nat_le, length, IfOk, Err};
 ghost use Rattle.cfj_model.specs.declared.class.Constructor.{Constructor};
 ghost use Rattle.cfj_model.specs.Faults.{IsFirstFault, IsTextOf};

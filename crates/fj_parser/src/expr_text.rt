@@ -1,3 +1,5 @@
+//! The text of an expression.
+
 ghost use Rattle.std.specs.Prelude.{◌≡◌, ℕ, IfOk, Err};
 ghost use Rattle.cfj_model.specs.declared.expr.Expr.{Expr};
 ghost use Rattle.cfj_model.specs.Faults.{IsFirstFault, IsTextOf};

@@ -19,6 +19,7 @@ mod methods;
 mod mode;
 mod model_text;
 mod name_text;
+mod names;
 mod only;
 mod params;
 mod parser;

@@ -1,3 +1,5 @@
+//! The machine that reads one token at a time.
+
 ghost use Rattle.std.specs.Prelude.{◌≡◌, ◌^◌, ◌<◌, true, IfOk, is_some, [], length};
 ghost use Rattle.cfj_model.specs.Names.{is_name};
 ghost use Rattle.cfj_model.specs.Tokens.{Id};
@@ -128,13 +130,6 @@ impl<'a> Machine<'a> {
         ensures { result ≡ self.old.classes }
     {
         mem::replace(&mut self.classes, Vec::new(alloc))
-    }
-
-    /// The fields that are read.
-    pub fn take_fields(&mut self, alloc: Global) -> Vec<Field>
-        ensures { result ≡ self.old.fields }
-    {
-        mem::replace(&mut self.fields, Vec::new(alloc))
     }
 
     /// The methods that are read.

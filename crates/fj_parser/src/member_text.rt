@@ -1,3 +1,5 @@
+//! The text of a field or a method.
+
 ghost use Rattle.std.specs.Prelude.{◌≡◌, ℕ, ◌+◌, true, nat_le, length, [], ◌∷◌, IfOk, Err};
 ghost use Rattle.cfj_model.specs.declared.class.Field.{Field};
 ghost use Rattle.cfj_model.specs.declared.class.Method.{Method};

@@ -1,3 +1,5 @@
+//! The text of a feature model.
+
 ghost use Rattle.std.specs.Prelude.{◌≡◌, ℕ, IfOk, Err};
 ghost use Rattle.cfj_model.specs.declared.feature_model.FeatureModel.{FeatureModel};
 ghost use Rattle.cfj_model.specs.Faults.{IsFirstFault, IsTextOf};

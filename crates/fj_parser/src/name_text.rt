@@ -1,3 +1,5 @@
+//! The text of a name.
+
 ghost use Rattle.std.specs.Prelude.{◌≡◌, ℕ, true, List, IfOk, Err};
 ghost use Rattle.cfj_model.specs.Faults.{IsFirstFault, IsTextOf};
 ghost use Rattle.cfj_model.specs.Names.{is_name};

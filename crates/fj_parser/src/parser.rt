@@ -1,3 +1,5 @@
+//! The text of a project.
+
 ghost use Rattle.std.specs.Prelude.{◌≡◌, ℕ, ◌≤◌, length, IfOk, Err};
 ghost use Rattle.cfj_model.specs.Faults.{IsFirstFault, IsTextOf, projects};
 ghost use Rattle.cfj_model.specs.ProductLines.{ProductLine};

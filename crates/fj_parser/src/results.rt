@@ -1,3 +1,5 @@
+//! What a machine has read, taken out of its box.
+
 ghost use Rattle.std.specs.Prelude.{◌≡◌, true};
 ghost use Rattle.cfj_model.specs.Names.{is_name};
 ghost use Rattle.fj_parser.specs.Machine as spec;

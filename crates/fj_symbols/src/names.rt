@@ -1,3 +1,5 @@
+//! Names from texts that are known to be names.
+
 ghost use Rattle.std.specs.Prelude.{◌≡◌, true, IfOk};
 ghost use Rattle.cfj_model.specs.Names.{is_name};
 

@@ -1,3 +1,5 @@
+//! What is open to the left of the place that is read.
+
 ghost use Rattle.std.specs.Prelude.{◌≡◌, IfOk, nat_le};
 ghost use Rattle.formula_reader.specs.Machine as spec;
 

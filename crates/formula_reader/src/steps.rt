@@ -1,3 +1,5 @@
+//! What each token does.
+
 ghost use Rattle.std.specs.Prelude.{◌≡◌, ◌≤◌, IfOk, length};
 ghost use Rattle.fj_symbols.specs.Views.{symbol_seen};
 ghost use Rattle.cfj_model.specs.FormulaGrammar as grammar;

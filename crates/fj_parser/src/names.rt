@@ -1,7 +1,7 @@
 //! Two names at once, so that a caller has one way out in place of two.
 
 ghost use Rattle.std.specs.Prelude.{◌≡◌, true, IfOk};
-ghost use Rattle.cfj_model.specs.Names.{is_name};
+ghost use Rattle.cfj_words.specs.Names.{is_name};
 
 use cfj_model::Name;
 use fj_symbols::name_of;

@@ -1,7 +1,7 @@
 //! A part of a project that is read by itself, with what it stands under.
 
 ghost use Rattle.std.specs.Prelude.{◌≡◌, true, nat_le, [], length, IfOk, OnOk};
-ghost use Rattle.cfj_model.specs.Names.{is_name};
+ghost use Rattle.cfj_words.specs.Names.{is_name};
 ghost use Rattle.cfj_model.specs.ProductLines.{are_distinct, most_features};
 
 use crate::goal::Goal;

@@ -1,7 +1,7 @@
 //! What a machine has read, taken out of its box.
 
 ghost use Rattle.std.specs.Prelude.{◌≡◌, true};
-ghost use Rattle.cfj_model.specs.Names.{is_name};
+ghost use Rattle.cfj_words.specs.Names.{is_name};
 ghost use Rattle.fj_parser.specs.Machine as spec;
 ghost use Rattle.fj_parser.specs.MachineViews.{machine_seen};
 ghost use Rattle.fj_parser.specs.Reading.{of_parts};

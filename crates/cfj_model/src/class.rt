@@ -1,10 +1,8 @@
 ghost use Rattle.std.specs.Prelude.{◌≡◌, IfOk};
 
 use crate::colors::Colors;
-use crate::copied::{Copied, copied_items};
 use crate::expr::Expr;
-use crate::items::Items;
-use crate::name::Name;
+use cfj_words::{Copied, Items, Name, copied_items};
 use std::alloc::{AllocError, Global};
 
 /// `of name;` in a class.

@@ -1,7 +1,7 @@
 ghost use Rattle.std.specs.Prelude.{Some};
 ghost use Rattle.cfj_model.specs.Sites as spec;
 
-use crate::name::Name;
+use cfj_words::Name;
 use std::fmt;
 
 /// A node of a project, as `Site` has it, over names that stand elsewhere.

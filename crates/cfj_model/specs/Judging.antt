@@ -19,17 +19,17 @@ use Rattle.cfj_model.specs.declared.site.Site.{Site}
 use Rattle.cfj_model.specs.declared.site.Site.TheVariants as site
 
 -- a rule at a site, and whether it breaks there
-pub record Judged : Type 0 where
+pub record RuleAt : Type 0 where
   pub site : Site
   pub rule : Rule
   pub breaks : Bool
 
 -- a rule, and whether it breaks
-abbrev pub Verdict : Type 0
-Verdict = Rule × Bool
+abbrev pub Ruling : Type 0
+Ruling = Rule × Bool
 
 -- the rules of a site, in order
-abbrev pub judged_at : Site → List Verdict → List Judged
+abbrev pub judged_at : Site → List Ruling → List RuleAt
 judged_at s vs = map (λ v. record { site = s; rule = v.0; breaks = v.1 }) vs
 
 -- ---- lists of names
@@ -53,7 +53,7 @@ variable_type g x = if bytes_eq x this then Some g.class else param_type g.param
 -- those that the node round it judges there.
 pub record JudgedExpr : Type 0 where
   pub type : Option (List ℕ)
-  pub rules : List Verdict → List (ℕ × List Verdict)
+  pub rules : List Ruling → List (ℕ × List Ruling)
 
 -- all have types
 abbrev pub types_of : List (Option (List ℕ)) → Option (List (List ℕ))
@@ -95,7 +95,7 @@ abbrev pub fits : Fit → Bool
 fits f = not f.differs && not (list_any (λ b. b) f.misfits)
 
 -- the rules of arguments, each with the one that the call or `new` round it judges there
-abbrev pub argument_rules : Rule → List JudgedExpr → List Bool → List (ℕ × List Verdict)
+abbrev pub argument_rules : Rule → List JudgedExpr → List Bool → List (ℕ × List Ruling)
 argument_rules rule [] bs = []
 argument_rules rule (a ∷ xs) [] = a.rules ((rule, false) ∷ []) ++ argument_rules rule xs []
 argument_rules rule (a ∷ xs) (b ∷ bs) = a.rules ((rule, b) ∷ []) ++ argument_rules rule xs bs
@@ -177,7 +177,7 @@ judged_expr p g = fold-Expr JudgedExpr JudgedExpr (judged_step p g) judged_arg
 
 -- ---- declarations
 
-abbrev pub judged_field : Table → Class → Field → List Judged
+abbrev pub judged_field : Table → Class → Field → List RuleAt
 judged_field p k f =
     judged_at (site.Field k.name f.name f.alt)
     ((K1, not (is_known p f.of)) ∷ ((K3, list_any (λ a. is_some (field_called f.name a)) (ancestors p k.name)) ∷ []))
@@ -186,7 +186,7 @@ judged_field p k f =
 abbrev pub takes_fields : List Param → List Field → Bool
 takes_fields ps fs = are_same (map (λ p. p.of) ps) (map (λ f. f.of) fs) && are_same (map (λ p. p.name) ps) (map (λ f. f.name) fs)
 
-abbrev pub judged_ctor : Table → Class → List Judged
+abbrev pub judged_ctor : Table → Class → List RuleAt
 judged_ctor p k =
     judged_at (site.Ctor k.name)
     ((K4, not (takes_fields k.ctor.params (all_fields p k.name)))
@@ -207,7 +207,7 @@ is_no_result p m (Some t) = not (is_subtype p t m.result)
 abbrev pub environment_of : Class → Method → Environment
 environment_of k m = record { class = k.name; params = m.params }
 
-abbrev pub judged_method : Table → Class → Method → List Judged
+abbrev pub judged_method : Table → Class → Method → List RuleAt
 judged_method p k m =
     let body : JudgedExpr = judged_expr p (environment_of k m) m.body in
     judged_at (site.Method k.name m.name m.alt)
@@ -215,26 +215,26 @@ judged_method p k m =
     ∷ ((K7, is_overridden_wrongly m (first_some (method_called m.name) (ancestors p k.name)))
     ∷ ((K8, is_no_result p m body.type) ∷ [])))
     ++ (flat_map (λ (q : Param). judged_at (site.Param k.name m.name m.alt q.slot) ((K1, not (is_known p q.of)) ∷ [])) m.params
-    ++ flat_map (λ (n : ℕ × List Verdict). judged_at (site.Node k.name m.name m.alt n.0) n.1) (body.rules []))
+    ++ flat_map (λ (n : ℕ × List Ruling). judged_at (site.Node k.name m.name m.alt n.0) n.1) (body.rules []))
 
 -- the class is an ancestor of itself
 abbrev pub extends_itself : Table → Class → Bool
 extends_itself p k = list_any (λ a. bytes_eq a.parent k.name) (chain p k.name)
 
-abbrev pub judged_class : Table → Class → List Judged
+abbrev pub judged_class : Table → Class → List RuleAt
 judged_class p k =
     judged_at (site.Class k.name) ((K1, not (is_known p k.parent)) ∷ ((K2, extends_itself p k) ∷ []))
     ++ (flat_map (judged_field p k) k.fields ++ (judged_ctor p k ++ flat_map (judged_method p k) k.methods))
 
 -- all pairs of a project, in the order of the text, the rules of a site in their order
-unfoldable pub judged : Table → List Judged
+unfoldable pub judged : Table → List RuleAt
 judged p = flat_map (judged_class p) p
 
 -- a pair of a site and a rule
 abbrev pub Pair : Type 0
 Pair = Site × Rule
 
-abbrev pub pair_of : Judged → Pair
+abbrev pub pair_of : RuleAt → Pair
 pair_of j = (j.site, j.rule)
 
 abbrev pub pairs_of : Table → List Pair

@@ -6,7 +6,7 @@ use Rattle.std.proofs.lemmas.Grind.{flat_map-append}
 use Rattle.std.proofs.lemmas.List.{append-nil, map-append}
 use Rattle.std.proofs.lemmas.List.Folds.{list_all-append}
 use Rattle.cfj_model.specs.LookUps.{Table, is_known}
-use Rattle.cfj_model.specs.Judging.{Judged, Pair, Verdict, JudgedExpr, judged_at, judged_step, judged_arg, pair_of, types_of, Fit, fit_of, no_misfits, argument_rules, variable_type, accessed, called, field_types, is_unrelated}
+use Rattle.cfj_model.specs.Judging.{RuleAt, Pair, Ruling, JudgedExpr, judged_at, judged_step, judged_arg, pair_of, types_of, Fit, fit_of, no_misfits, argument_rules, variable_type, accessed, called, field_types, is_unrelated}
 use Rattle.cfj_model.specs.Typing.{Environment, param_types}
 use Rattle.cfj_model.specs.declared.class.Method.{Method}
 use Rattle.cfj_model.specs.declared.expr.Arg.{Arg}
@@ -27,18 +27,18 @@ use Rattle.plain_fj.proofs.Broken.{broken_append}
 
 -- ---- sites
 
-site_append : (s : Site) (vs ws : List Verdict) → broken (judged_at s (vs ++ ws)) ≡ broken (judged_at s vs) ++ broken (judged_at s ws)
+site_append : (s : Site) (vs ws : List Ruling) → broken (judged_at s (vs ++ ws)) ≡ broken (judged_at s vs) ++ broken (judged_at s ws)
 site_append s vs ws =
-    ap broken (map-append (λ (v : Verdict). let j : Judged = record { site = s; rule = v.0; breaks = v.1 } in j) vs ws) ∙ broken_append (judged_at s vs) (judged_at s ws)
+    ap broken (map-append (λ (v : Ruling). let j : RuleAt = record { site = s; rule = v.0; breaks = v.1 } in j) vs ws) ∙ broken_append (judged_at s vs) (judged_at s ws)
 
-quiet_site : (s : Site) (vs : List Verdict) → none_breaks vs ≡ true → broken (judged_at s vs) ≡ []
+quiet_site : (s : Site) (vs : List Ruling) → none_breaks vs ≡ true → broken (judged_at s vs) ≡ []
 quiet_site s [] h = refl
 quiet_site s (v ∷ vs) h =
     let parts = and_parts (not v.1) (none_breaks vs) h in
     go v.1 (not-true v.1 parts.0) (quiet_site s vs parts.1)
   where
     go : (c : Bool) → c ≡ false → broken (judged_at s vs) ≡ []
-        → map pair_of (cond c (record { site = s; rule = v.0; breaks = v.1 } ∷ filter (λ (j : Judged). j.breaks) (judged_at s vs)) (filter (λ (j : Judged). j.breaks) (judged_at s vs))) ≡ []
+        → map pair_of (cond c (record { site = s; rule = v.0; breaks = v.1 } ∷ filter (λ (j : RuleAt). j.breaks) (judged_at s vs)) (filter (λ (j : RuleAt). j.breaks) (judged_at s vs))) ≡ []
     go true n ih = absurd (not_true n)
     go false n ih = ih
 
@@ -62,28 +62,28 @@ module _ (b : Body) where
   at n = site.Node b.class.now b.method.now b.alt n
 
   -- the pairs that break at these nodes
-  abbrev pub pairs : List (ℕ × List Verdict) → List Pair
+  abbrev pub pairs : List (ℕ × List Ruling) → List Pair
   pairs ns = broken (at_nodes b ns)
 
   -- one rule at a node
-  abbrev pub one : ℕ → Rule → Bool → List (ℕ × List Verdict)
+  abbrev pub one : ℕ → Rule → Bool → List (ℕ × List Ruling)
   one slot rule c = (slot, (rule, c) ∷ []) ∷ []
 
   -- what is judged at the nodes of arguments but by the node round them
-  abbrev pub own_nodes : List Arg → List Judged
+  abbrev pub own_nodes : List Arg → List RuleAt
   own_nodes args = flat_map (λ (a : Arg). nodes_in b a.expr) args
 
-  pairs_append : (xs ys : List (ℕ × List Verdict)) → pairs (xs ++ ys) ≡ pairs xs ++ pairs ys
-  pairs_append xs ys = ap broken (flat_map-append (λ (n : ℕ × List Verdict). judged_at (at n.0) n.1) xs ys) ∙ broken_append (at_nodes b xs) (at_nodes b ys)
+  pairs_append : (xs ys : List (ℕ × List Ruling)) → pairs (xs ++ ys) ≡ pairs xs ++ pairs ys
+  pairs_append xs ys = ap broken (flat_map-append (λ (n : ℕ × List Ruling). judged_at (at n.0) n.1) xs ys) ∙ broken_append (at_nodes b xs) (at_nodes b ys)
 
-  quiet_nodes : (ns : List (ℕ × List Verdict)) → nodes_clear ns ≡ true → pairs ns ≡ []
+  quiet_nodes : (ns : List (ℕ × List Ruling)) → nodes_clear ns ≡ true → pairs ns ≡ []
   quiet_nodes [] h = refl
   quiet_nodes ((slot, vs) ∷ ns) h =
       let parts = and_parts (none_breaks vs) (nodes_clear ns) h in
       broken_append (judged_at (at slot) vs) (at_nodes b ns) ∙ ap₂ (λ x y. x ++ y) (quiet_site (at slot) vs parts.0) (quiet_nodes ns parts.1)
 
   -- a node with two rules
-  two_rules : (slot : ℕ) (r0 r1 : Rule) (c0 c1 : Bool) (ns : List (ℕ × List Verdict))
+  two_rules : (slot : ℕ) (r0 r1 : Rule) (c0 c1 : Bool) (ns : List (ℕ × List Ruling))
       → pairs ((slot, (r0, c0) ∷ ((r1, c1) ∷ [])) ∷ ns) ≡ pairs (one slot r0 c0) ++ (pairs (one slot r1 c1) ++ pairs ns)
   two_rules slot r0 r1 c0 c1 ns =
       broken_append (judged_at (at slot) ((r0, c0) ∷ [])) (judged_at (at slot) ((r1, c1) ∷ []) ++ at_nodes b ns)
@@ -93,10 +93,10 @@ module _ (b : Body) where
 
   -- the nodes before the root and behind it, and the root's own rules
   record HasRoot (x : Expr) : Type 0 where
-    before : List (ℕ × List Verdict)
-    own : List Verdict
-    behind : List (ℕ × List Verdict)
-    is : (more : List Verdict) → (judged_in b x).rules more ≡ before ++ (slot_of x, own ++ more) ∷ behind
+    before : List (ℕ × List Ruling)
+    own : List Ruling
+    behind : List (ℕ × List Ruling)
+    is : (more : List Ruling) → (judged_in b x).rules more ≡ before ++ (slot_of x, own ++ more) ∷ behind
 
   rooted : (x : Expr) → HasRoot x
   rooted = by_cases HasRoot (record {
@@ -148,7 +148,7 @@ module _ (b : Body) where
     };
   })
 
-  by_root : (x : Expr) (r : HasRoot x) (more : List Verdict) → pairs ((judged_in b x).rules more)
+  by_root : (x : Expr) (r : HasRoot x) (more : List Ruling) → pairs ((judged_in b x).rules more)
       ≡ pairs r.before ++ ((broken (judged_at (at (slot_of x)) r.own) ++ broken (judged_at (at (slot_of x)) more)) ++ pairs r.behind)
   by_root x r more =
       ap pairs (r.is more) ∙ pairs_append r.before ((slot_of x, r.own ++ more) ∷ r.behind)
@@ -156,7 +156,7 @@ module _ (b : Body) where
       ∙ ap (λ z. z ++ pairs r.behind) (site_append (at (slot_of x)) r.own more))
 
   -- rules that the node round it judges at its root and that don't break change nothing
-  unchanged : (x : Expr) (more : List Verdict) → none_breaks more ≡ true → pairs ((judged_in b x).rules more) ≡ broken (nodes_in b x)
+  unchanged : (x : Expr) (more : List Ruling) → none_breaks more ≡ true → pairs ((judged_in b x).rules more) ≡ broken (nodes_in b x)
   unchanged x more none =
       by_root x (rooted x) more
       ∙ ap (λ z. pairs (rooted x).before ++ ((broken (judged_at (at (slot_of x)) (rooted x).own) ++ z) ++ pairs (rooted x).behind)) (quiet_site (at (slot_of x)) more none)
@@ -170,12 +170,12 @@ module _ (b : Body) where
   typed_quiet x t q = quiet_nodes ((judged_in b x).rules []) (typed_clear x t q)
 
   -- and then only what the node round it judges can break
-  at_root : (x : Expr) (t : List ℕ) (more : List Verdict) → type_in x ≡ Some t → pairs ((judged_in b x).rules more) ≡ broken (judged_at (at (slot_of x)) more)
+  at_root : (x : Expr) (t : List ℕ) (more : List Ruling) → type_in x ≡ Some t → pairs ((judged_in b x).rules more) ≡ broken (judged_at (at (slot_of x)) more)
   at_root x t more q =
       by_root x r more
       ∙ ap (λ z. z ++ ((broken (judged_at (at (slot_of x)) r.own) ++ broken (judged_at (at (slot_of x)) more)) ++ pairs r.behind)) (quiet_nodes r.before parts.0)
       ∙ ap (λ z. (z ++ broken (judged_at (at (slot_of x)) more)) ++ pairs r.behind)
-      (quiet_site (at (slot_of x)) r.own (and_parts (none_breaks r.own) true (sym (list_all-append (λ (v : Verdict). not v.1) r.own []) ∙ here.0)).0)
+      (quiet_site (at (slot_of x)) r.own (and_parts (none_breaks r.own) true (sym (list_all-append (λ (v : Ruling). not v.1) r.own []) ∙ here.0)).0)
       ∙ ap (λ z. broken (judged_at (at (slot_of x)) more) ++ z) (quiet_nodes r.behind here.1)
       ∙ append-nil (broken (judged_at (at (slot_of x)) more))
     where

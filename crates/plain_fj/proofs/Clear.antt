@@ -5,7 +5,7 @@ use Rattle.std.proofs.lemmas.Bool.{and_parts, and_from}
 use Rattle.std.proofs.lemmas.List.{length-map}
 use Rattle.std.proofs.lemmas.List.Folds.{list_all-append}
 use Rattle.cfj_model.specs.LookUps.{Table, is_known}
-use Rattle.cfj_model.specs.Judging.{Verdict, JudgedExpr, judged_step, judged_arg, types_of, Fit, fits, fit_of, fit_numbers, misfits, no_misfits, argument_rules, type_if, variable_type, accessed, called, result_type, field_types, is_unrelated}
+use Rattle.cfj_model.specs.Judging.{Ruling, JudgedExpr, judged_step, judged_arg, types_of, Fit, fits, fit_of, fit_numbers, misfits, no_misfits, argument_rules, type_if, variable_type, accessed, called, result_type, field_types, is_unrelated}
 use Rattle.cfj_model.specs.Typing.{Environment, param_types, classes_named_by, classes_named_step, joined}
 use Rattle.cfj_model.specs.declared.class.Method.{Method}
 use Rattle.cfj_model.specs.declared.expr.Arg.{Arg}
@@ -18,11 +18,11 @@ use Rattle.plain_fj.proofs.Members.{unlike, not_true}
 use Rattle.plain_fj.proofs.Typed.{type_of, judged_of, judged_args, arg_types, type_var, type_get, type_call, type_new, type_cast}
 
 -- none of these rules breaks
-abbrev pub none_breaks : List Verdict → Bool
+abbrev pub none_breaks : List Ruling → Bool
 none_breaks vs = list_all (λ v. not v.1) vs
 
 -- none of the rules of these nodes breaks
-abbrev pub nodes_clear : List (ℕ × List Verdict) → Bool
+abbrev pub nodes_clear : List (ℕ × List Ruling) → Bool
 nodes_clear ns = list_all (λ n. none_breaks n.1) ns
 
 -- ---- tests
@@ -148,7 +148,7 @@ fit_length p xs wanted = go (types_of (map (λ (x : JudgedExpr). x.type) xs)) re
 module _ (p : Table) (g : Environment) where
   -- No rule of its nodes breaks, nor one that the node round it judges at its root, exactly where it has a type and none of those does.
   abbrev Clear : Expr → Type 0
-  Clear x = (more : List Verdict) → nodes_clear ((judged_of p g x).rules more) ≡ (is_some (type_of p g x) && none_breaks more)
+  Clear x = (more : List Ruling) → nodes_clear ((judged_of p g x).rules more) ≡ (is_some (type_of p g x) && none_breaks more)
 
   args_clear : (rule : Rule) (ys : List (Proved Clear)) (bs : List Bool) → length bs ≡ length (judged_args p g (args_of Clear ys))
       → nodes_clear (argument_rules rule (judged_args p g (args_of Clear ys)) bs) ≡ (is_some (arg_types p g (args_of Clear ys)) && not (list_any (λ b. b) bs))
@@ -239,7 +239,7 @@ module _ (p : Table) (g : Environment) where
       t : Option (List ℕ)
       t = type_of p g on
 
-  pub clear : (x : Expr) (more : List Verdict) → nodes_clear ((judged_of p g x).rules more) ≡ (is_some (type_of p g x) && none_breaks more)
+  pub clear : (x : Expr) (more : List Ruling) → nodes_clear ((judged_of p g x).rules more) ≡ (is_some (type_of p g x) && none_breaks more)
   clear = by_cases Clear (record { var_case = clear_var; get_case = clear_get; call_case = clear_call; new_case = clear_new; cast_case = clear_cast })
 
   -- ---- names

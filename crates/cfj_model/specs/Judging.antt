@@ -1,5 +1,5 @@
 -- The rules of a project's nodes, each judged at its node: which pairs of a site and a rule there are, in order, and which break.
-use Rattle.std.specs.Prelude.{ℕ, Bool, true, false, not, ◌&&◌, ◌==◌, List, [], ◌∷◌, ◌++◌, length, map, flat_map, find, if◌then◌else◌, Option, Some, None, is_some, option_map}
+use Rattle.std.specs.Prelude.{ℕ, Bool, true, false, not, ◌&&◌, ◌==◌, nat_lt, List, [], ◌∷◌, ◌++◌, length, map, flat_map, find, if◌then◌else◌, Option, Some, None, is_some, option_map}
 use Rattle.std.specs.List.{list_any}
 use Rattle.std.specs.Str.{bytes_eq}
 use Rattle.cfj_model.specs.LookUps.{Table, all_fields, ancestors, chain, field_called, field_of, first_some, is_known, is_subtype, method_called, method_of}
@@ -28,6 +28,34 @@ pub record RuleAt : Type 0 where
 abbrev pub Ruling : Type 0
 Ruling = Rule × Bool
 
+-- the order of the rules at one site: K1 to K8, then E1 to E8
+abbrev pub rank : Rule → ℕ
+rank K1 = 1
+rank K2 = 2
+rank K3 = 3
+rank K4 = 4
+rank K5 = 5
+rank K6 = 6
+rank K7 = 7
+rank K8 = 8
+rank E1 = 9
+rank E2 = 10
+rank E3 = 11
+rank E4 = 12
+rank E5 = 13
+rank E6 = 14
+rank E7 = 15
+rank E8 = 16
+
+-- one more item in its place by rank, behind those that rank lower
+abbrev pub insert_ranked : {A : Type 0} → (A → ℕ) → A → List A → List A
+insert_ranked rank_of x [] = x ∷ []
+insert_ranked rank_of x (y ∷ ys) = if nat_lt (rank_of y) (rank_of x) then y ∷ insert_ranked rank_of x ys else x ∷ (y ∷ ys)
+
+-- one more ruling, in its place among those of its site
+abbrev pub with_ruling : Ruling → List Ruling → List Ruling
+with_ruling v vs = insert_ranked (λ w. rank w.0) v vs
+
 -- the rules of a site, in order
 abbrev pub judged_at : Site → List Ruling → List RuleAt
 judged_at s vs = map (λ v. record { site = s; rule = v.0; breaks = v.1 }) vs
@@ -49,8 +77,8 @@ param_type ps x = option_map (λ (p : Param). p.of) (find (λ (p : Param). bytes
 abbrev pub variable_type : Environment → List ℕ → Option (List ℕ)
 variable_type g x = if bytes_eq x this then Some g.class else param_type g.params x
 
--- An expression that is judged: its type, where it has one, and the rules of its nodes by slot, its root's behind being given
--- those that the node round it judges there.
+-- An expression that is judged: its type, where it has one, and the rules of its nodes by slot. Those that the node round it judges
+-- at its root are given, and stand among its root's own in the order of the rules.
 pub record JudgedExpr : Type 0 where
   pub type : Option (List ℕ)
   pub rules : List Ruling → List (ℕ × List Ruling)
@@ -146,7 +174,7 @@ judged_new p slot c args =
     let f : Fit = fit_of p args ts (field_types p c) in
     record {
       type = type_if (is_some ts && is_known p c && fits f) c;
-      rules = λ more. (slot, (K1, not (is_known p c)) ∷ ((E6, f.differs) ∷ more)) ∷ argument_rules E7 args f.misfits;
+      rules = λ more. (slot, (K1, not (is_known p c)) ∷ with_ruling (E6, f.differs) more) ∷ argument_rules E7 args f.misfits;
     }
 
 -- a known class to which an operand's type is neither below nor above
@@ -158,7 +186,7 @@ abbrev pub judged_cast : Table → ℕ → List ℕ → JudgedExpr → JudgedExp
 judged_cast p slot c on =
     record {
       type = type_if (is_some on.type && is_known p c && not (is_unrelated p on.type c)) c;
-      rules = λ more. (slot, (K1, not (is_known p c)) ∷ ((E8, is_unrelated p on.type c) ∷ more)) ∷ on.rules [];
+      rules = λ more. (slot, (K1, not (is_known p c)) ∷ with_ruling (E8, is_unrelated p on.type c) more) ∷ on.rules [];
     }
 
 abbrev pub judged_step : Table → Environment → Expr-F JudgedExpr JudgedExpr → JudgedExpr

@@ -5,7 +5,7 @@ use Rattle.cfj_model.specs.declared.expr.Arg.{Arg}
 use Rattle.cfj_model.specs.declared.expr.Expr.{Expr}
 use Rattle.cfj_model.specs.declared.expr.Expr.TheVariants as e
 use Rattle.cfj_model.specs.Marks.{spell_marks, roles_marks, colors_of}
-use Rattle.cfj_model.specs.Tokens.{Token, Id, NewWord, ThisWord, OpenParen, CloseParen, Comma, Dot}
+use Rattle.cfj_words.specs.Tokens.{Token, Id, NewWord, ThisWord, OpenParen, CloseParen, Comma, Dot}
 use Rattle.cfj_model.specs.Roles.{Role, casts, node, opens, plain, used_name, var_name}
 
 mutual

@@ -3,9 +3,9 @@ use Rattle.std.specs.Prelude.{◌≡◌, ℕ, true, false, List, [], ◌∷◌, 
 use Rattle.std.specs.Str.{chars, IsUtf8, IsValidUpTo}
 use Rattle.cfj_model.specs.declared.fault.FaultKind.{FaultKind}
 use Rattle.cfj_model.specs.declared.fault.FaultKind.TheVariants.{BadChar, OpenComment, Unexpected, Reserved, NotUtf8}
-use Rattle.cfj_model.specs.Names.{is_identifier}
-use Rattle.cfj_model.specs.Lexemes.{Lexed, Found, AtEnd, NoToken, NoClose, next_lexeme}
-use Rattle.cfj_model.specs.Tokens.{Token, Id, End, Takes, token_seen, place_of, is_reserved_word}
+use Rattle.cfj_words.specs.Names.{is_identifier}
+use Rattle.cfj_words.specs.Lexemes.{Lexed, Found, AtEnd, NoToken, NoClose, next_lexeme}
+use Rattle.cfj_words.specs.Tokens.{Token, Id, End, Takes, token_seen, place_of, is_reserved_word}
 use Rattle.cfj_model.specs.ProductLines.{ProductLine}
 use Rattle.cfj_model.specs.declared.class.Class.{Class}
 use Rattle.cfj_model.specs.Grammar.{Tree, spell, value, ClassTree, spell_class, value_class}

@@ -2,9 +2,9 @@
 -- roles of its tokens and the formula that it stands for.
 use Rattle.std.specs.Prelude.{ℕ, ◌+◌, List, ◌∷◌, position, Option, Some, None}
 use Rattle.std.specs.Str.{bytes_eq}
-use Rattle.cfj_model.specs.declared.formula.Formula.{Formula}
-use Rattle.cfj_model.specs.declared.formula.Formula.TheVariants as f
-use Rattle.cfj_model.specs.Tokens.{Token, Id, TrueWord, FalseWord, OpenParen, CloseParen, Bang, Ampersand, Bar, Arrow, DoubleArrow}
+use Rattle.cfj_logic.specs.declared.formula.Formula.{Formula}
+use Rattle.cfj_logic.specs.declared.formula.Formula.TheVariants as f
+use Rattle.cfj_words.specs.Tokens.{Token, Id, TrueWord, FalseWord, OpenParen, CloseParen, Bang, Ampersand, Bar, Arrow, DoubleArrow}
 use Rattle.cfj_model.specs.Roles.{Role, formula_name, formula_node, formula_opens, opens, plain}
 
 mutual

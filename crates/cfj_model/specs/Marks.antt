@@ -1,7 +1,7 @@
 -- Lists in the grammar, and the marks before a node: what they spell, the roles of their tokens and the colours that they give.
 use Rattle.std.specs.Prelude.{ℕ, ◌^◌, List, [], ◌∷◌, position, bit_or, Option, Some, None}
 use Rattle.std.specs.Str.{bytes_eq}
-use Rattle.cfj_model.specs.Tokens.{Token, Id, At}
+use Rattle.cfj_words.specs.Tokens.{Token, Id, At}
 use Rattle.cfj_model.specs.Roles.{Role, mark_name, plain}
 
 -- {X}, and what follows

@@ -5,7 +5,7 @@ use Rattle.cfj_model.specs.declared.expr.Arg.{Arg}
 use Rattle.cfj_model.specs.declared.expr.Expr.{Expr}
 use Rattle.cfj_model.specs.declared.expr.Expr.TheVariants as e
 use Rattle.cfj_model.specs.Marks.{spell_marks, roles_marks, color_of, colored, colors_of}
-use Rattle.cfj_model.specs.Tokens.{Token, CloseParen, Comma, Dot, Semicolon}
+use Rattle.cfj_words.specs.Tokens.{Token, CloseParen, Comma, Dot, Semicolon}
 use Rattle.cfj_model.specs.Roles.{Role, casts, node, opens, plain, used_name, var_name, mark_name}
 use Rattle.cfj_model.specs.ExpressionGrammar.{ExprTree, cast, chain, StartTree, variable, this_word, made, bracket, StepsTree, stop, get, call, ArgsTree, no_args, first_arg, MoreArgsTree, no_more, next_arg, spell_expr, spell_start, spell_steps, spell_args, spell_more_args, roles_expr, roles_start, roles_steps, roles_args, roles_more_args, value_expr, value_start, value_steps, value_args, value_more_args}
 use Rattle.expression_reader.specs.declared.frame.Frame.{Frame}

@@ -2,7 +2,7 @@
 use Rattle.std.proofs.Common.{◌≡◌, ℕ, ◌+◌, ◌≤◌, true, List, [], ◌∷◌, ◌++◌, length, refl, ◌∙◌, ap, arith}
 use Rattle.std.proofs.lemmas.Bool.{and_from, le-leb}
 use Rattle.cfj_model.specs.Marks.{spell_marks, roles_marks}
-use Rattle.cfj_model.specs.Tokens.{Token, Id, NewWord, OpenParen, CloseParen, Comma, Dot, At}
+use Rattle.cfj_words.specs.Tokens.{Token, Id, NewWord, OpenParen, CloseParen, Comma, Dot, At}
 use Rattle.cfj_model.specs.Roles.{Role, casts, node, opens, plain, used_name, mark_name, are_settled}
 use Rattle.cfj_model.specs.ExpressionGrammar.{ExprTree, cast, chain, StartTree, variable, this_word, made, bracket, StepsTree, stop, get, call, ArgsTree, no_args, first_arg, MoreArgsTree, no_more, next_arg, spell_expr, spell_start, spell_steps, spell_args, spell_more_args, roles_expr, roles_start, roles_steps, roles_args, roles_more_args}
 

@@ -5,7 +5,7 @@ use Rattle.std.specs.List.{list_all}
 use Rattle.std.proofs.lemmas.Bool.{and_from, and_parts, le-leb}
 use Rattle.cfj_model.specs.declared.expr.Expr.{Expr}
 use Rattle.cfj_model.specs.declared.expr.Expr.TheVariants as e
-use Rattle.cfj_model.specs.Tokens.{Token, Id, NewWord, ThisWord, OpenParen, CloseParen, Comma, Dot, At, Semicolon}
+use Rattle.cfj_words.specs.Tokens.{Token, Id, NewWord, ThisWord, OpenParen, CloseParen, Comma, Dot, At, Semicolon}
 use Rattle.cfj_model.specs.Roles.{Role, casts, node, opens, plain, used_name, var_name, mark_name, is_settled, are_settled, Tally, counted, tallied}
 use Rattle.expression_reader.specs.declared.frame.Frame.{Frame}
 use Rattle.expression_reader.specs.declared.frame.Frame.TheVariants.{InBracket, InCast, InArgs}

@@ -11,11 +11,11 @@ use Rattle.cfj_model.specs.declared.expr.Expr.TheVariants as e
 use Rattle.cfj_model.specs.declared.fault.FaultKind.{FaultKind}
 use Rattle.cfj_model.specs.declared.fault.FaultKind.TheVariants.{Limit}
 use Rattle.cfj_model.specs.declared.fault.LimitKind.TheVariants as limit
-use Rattle.cfj_model.specs.Names.{is_identifier, is_short_identifier}
+use Rattle.cfj_words.specs.Names.{is_identifier, is_short_identifier}
 use Rattle.cfj_model.specs.Expressions.{are_known, node_count}
 use Rattle.cfj_model.specs.Marks.{spell_marks, roles_marks, color_at, color_of, colored, colors_of}
 use Rattle.cfj_model.specs.ProductLines.{most_nest, most_nodes, most_size}
-use Rattle.cfj_model.specs.Tokens.{Token, Id, ThisWord, OpenParen, CloseParen, Dot}
+use Rattle.cfj_words.specs.Tokens.{Token, Id, ThisWord, OpenParen, CloseParen, Dot}
 use Rattle.cfj_model.specs.Roles.{Role, node, opens, plain, used_name, var_name, Tally, first_of, is_long, past_nest, past_nodes, past_size, broken_by, AreWithin}
 use Rattle.cfj_model.specs.ExpressionGrammar.{ExprTree, cast, chain, StartTree, variable, this_word, made, bracket, StepsTree, stop, get, call, ArgsTree, no_args, first_arg, MoreArgsTree, no_more, next_arg, spell_expr, spell_start, spell_steps, spell_args, spell_more_args, roles_expr, roles_start, roles_steps, roles_args, roles_more_args, value_expr, value_start, value_steps, value_args, value_more_args}
 use Rattle.fj_symbols.specs.Views.{are_read}

@@ -2,7 +2,7 @@
 use Rattle.std.proofs.Common.{◌≡◌, ℕ, ◌+◌, Bool, true, false, List, [], ◌∷◌, ◌++◌, length, map, Option, Some, None, refl, sym, ◌∙◌, ap, subst, arith, append_assoc, length-append, ◌⊎◌, inl, inr}
 use Rattle.cfj_model.specs.declared.expr.Expr.{Expr}
 use Rattle.cfj_model.specs.declared.expr.Expr.TheVariants as e
-use Rattle.cfj_model.specs.Tokens.{Token, Id, NewWord, ThisWord, OpenParen, CloseParen, Comma, Dot, At, Semicolon}
+use Rattle.cfj_words.specs.Tokens.{Token, Id, NewWord, ThisWord, OpenParen, CloseParen, Comma, Dot, At, Semicolon}
 use Rattle.cfj_model.specs.Roles.{Role, plain, opens, var_name, used_name, is_settled, are_settled}
 use Rattle.cfj_model.specs.ExpressionGrammar.{roles_expr, value_expr}
 use Rattle.expression_reader.specs.declared.frame.Frame.{Frame}

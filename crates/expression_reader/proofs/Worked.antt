@@ -2,7 +2,7 @@
 use Rattle.std.proofs.Common.{◌≡◌, ℕ, List, [], ◌∷◌, Some, None, refl}
 use Rattle.std.specs.Prelude.{codes}
 use Rattle.cfj_model.specs.declared.expr.Expr.TheVariants as e
-use Rattle.cfj_model.specs.Tokens.{Id, NewWord, ThisWord, OpenParen, CloseParen, Comma, Dot, At, Semicolon}
+use Rattle.cfj_words.specs.Tokens.{Id, NewWord, ThisWord, OpenParen, CloseParen, Comma, Dot, At, Semicolon}
 use Rattle.cfj_model.specs.Roles.{casts, node, opens, plain, used_name, var_name, mark_name}
 use Rattle.expression_reader.specs.Machine.{start, done, run}
 

@@ -3,7 +3,7 @@ use Rattle.std.specs.Prelude.{◌≡◌, ℕ, ◌+◌, ◌≤◌, true, false, L
 use Rattle.cfj_model.specs.Expressions.{node_count}
 use Rattle.cfj_model.specs.ExpressionGrammar.{ExprTree, spell_expr, roles_expr, value_expr}
 use Rattle.cfj_model.specs.ProductLines.{most_size, is_body}
-use Rattle.cfj_model.specs.Tokens.{Token, Id, Semicolon}
+use Rattle.cfj_words.specs.Tokens.{Token, Id, Semicolon}
 use Rattle.cfj_model.specs.Roles.{Role, plain, Tally, tallied, AreWithin, are_settled}
 use Rattle.fj_symbols.specs.Views.{are_read}
 use Rattle.expression_reader.specs.Machine.{State, start, done, step, pending, waiting, emitted, run, is_read_whole, is_done, takes_name}

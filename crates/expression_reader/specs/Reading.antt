@@ -1,7 +1,7 @@
 -- How what the machine has read stands towards the grammar.
 use Rattle.std.specs.Prelude.{◌≡◌, ℕ, ◌+◌, Bool, true, false, if◌then◌else◌, List, [], ◌∷◌, ◌++◌, length}
 use Rattle.cfj_model.specs.ExpressionGrammar.{ExprTree, spell_expr, roles_expr}
-use Rattle.cfj_model.specs.Tokens.{Token, Semicolon}
+use Rattle.cfj_words.specs.Tokens.{Token, Semicolon}
 use Rattle.cfj_model.specs.Roles.{Role, casts, mark_name, node, opens, plain, used_name, var_name}
 use Rattle.expression_reader.specs.declared.mode.Mode.{Mode}
 use Rattle.expression_reader.specs.declared.mode.Mode.TheVariants.{AfterDot, AfterMember, AfterNew, AfterClass}

@@ -6,7 +6,7 @@ use Rattle.cfj_model.specs.declared.class.Class.{Class}
 use Rattle.cfj_model.specs.declared.expr.Expr.{Expr}
 use Rattle.cfj_model.specs.ExpressionGrammar.{value_expr}
 use Rattle.cfj_model.specs.Marks.{color_of}
-use Rattle.cfj_model.specs.Tokens.{Token, Semicolon, End}
+use Rattle.cfj_words.specs.Tokens.{Token, Semicolon, End}
 use Rattle.cfj_model.specs.Roles.{Role, used_name, plain}
 use Rattle.expression_reader.specs.Machine as expression
 use Rattle.expression_reader.specs.Reading as expression_reading

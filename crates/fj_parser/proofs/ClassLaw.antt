@@ -6,7 +6,7 @@ use Rattle.cfj_model.specs.Faults.{single_classes}
 use Rattle.cfj_model.specs.Grammar.{ClassTree, spell_class, value_class}
 use Rattle.cfj_model.specs.Marks.{in_order, spell_marks}
 use Rattle.cfj_model.specs.Roles.{Role, plain}
-use Rattle.cfj_model.specs.Tokens.{Token, Id, ClassWord, End}
+use Rattle.cfj_words.specs.Tokens.{Token, Id, ClassWord, End}
 use Rattle.cfj_model.specs.TreeRoles.{roles_class}
 use Rattle.fj_symbols.specs.Views.{are_read}
 use Rattle.fj_parser.specs.Laws.{Closes, GoesByName, Reads}

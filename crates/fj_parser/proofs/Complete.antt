@@ -4,8 +4,8 @@ use Rattle.std.proofs.lemmas.List.{append-nil}
 use Rattle.std.proofs.lemmas.Slice.Eq.{bytes_eq-Decides}
 use Rattle.std.specs.Str.{bytes_eq}
 use Rattle.cfj_model.specs.declared.class.Class.{Class}
-use Rattle.cfj_model.specs.Tokens.{Token, Id, ClassWord, ExtendsWord, SuperWord, ThisWord, ReturnWord, OpenBrace, CloseBrace, OpenParen, CloseParen, Semicolon, Comma, Dot, Equals, At, End}
-use Rattle.cfj_model.specs.declared.formula.Formula.{Formula}
+use Rattle.cfj_words.specs.Tokens.{Token, Id, ClassWord, ExtendsWord, SuperWord, ThisWord, ReturnWord, OpenBrace, CloseBrace, OpenParen, CloseParen, Semicolon, Comma, Dot, Equals, At, End}
+use Rattle.cfj_logic.specs.declared.formula.Formula.{Formula}
 use Rattle.cfj_model.specs.ExpressionGrammar.{spell_expr, roles_expr}
 use Rattle.cfj_model.specs.FormulaGrammar.{IffTree, spell_iff, roles_iff, value_iff}
 use Rattle.cfj_model.specs.Grammar.{Declared, Named, MethodTree, ClassTree, Tree, constraint_word, features_word, spell_name, spell_features, spell_field, spell_param, spell_sent, spell_assign, spell_ctor, spell_method, spell_constraint, spell_class, spell, numbered, value_field, value_param, value_sent, value_ctor, value_method, value_class}

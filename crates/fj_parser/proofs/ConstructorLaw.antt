@@ -5,9 +5,9 @@ use Rattle.std.proofs.lemmas.Option.{none-some}
 use Rattle.std.proofs.lemmas.Slice.Eq.{bytes_eq-Decides}
 use Rattle.std.specs.Str.{bytes_eq}
 use Rattle.cfj_model.specs.Grammar.{spell_ctor}
-use Rattle.cfj_model.specs.Names.{is_identifier}
+use Rattle.cfj_words.specs.Names.{is_identifier}
 use Rattle.cfj_model.specs.Roles.{Role, used_name, plain, are_settled}
-use Rattle.cfj_model.specs.Tokens.{Token, Id, OpenParen, CloseBrace, End}
+use Rattle.cfj_words.specs.Tokens.{Token, Id, OpenParen, CloseBrace, End}
 use Rattle.cfj_model.specs.TreeRoles.{roles_ctor}
 use Rattle.fj_symbols.specs.Views.{are_read}
 use Rattle.fj_parser.specs.Languages.{CtorTree, in_class, constructors}

@@ -5,7 +5,7 @@ use Rattle.std.specs.Str.{bytes_eq}
 use Rattle.cfj_model.specs.Grammar.{ClassTree, spell_ctor, spell_param, spell_sent, spell_assign}
 use Rattle.cfj_model.specs.Marks.{in_order, separated}
 use Rattle.cfj_model.specs.Roles.{Role, used_name, plain}
-use Rattle.cfj_model.specs.Tokens.{Token, Id, SuperWord, OpenBrace, CloseBrace, OpenParen, CloseParen, Semicolon, Comma, At, End}
+use Rattle.cfj_words.specs.Tokens.{Token, Id, SuperWord, OpenBrace, CloseBrace, OpenParen, CloseParen, Semicolon, Comma, At, End}
 use Rattle.cfj_model.specs.TreeRoles.{roles_ctor, roles_param}
 use Rattle.fj_parser.specs.declared.goal.Goal.TheVariants as goal
 use Rattle.fj_parser.specs.declared.mode.Mode.{Mode}

@@ -4,7 +4,7 @@ use Rattle.std.proofs.lemmas.List.{append-nil}
 use Rattle.std.proofs.lemmas.Option.{none-some, same_Some}
 use Rattle.std.specs.Str.{bytes_eq}
 use Rattle.cfj_model.specs.Roles.{Role, plain}
-use Rattle.cfj_model.specs.Tokens.{Token, Id, CloseBrace, End}
+use Rattle.cfj_words.specs.Tokens.{Token, Id, CloseBrace, End}
 use Rattle.fj_parser.specs.Laws.{Settles}
 use Rattle.fj_parser.specs.declared.goal.Goal.TheVariants as goal
 use Rattle.fj_parser.specs.declared.mode.Mode.{Mode}

@@ -8,7 +8,7 @@ use Rattle.cfj_model.specs.declared.expr.Expr.{Expr}
 use Rattle.cfj_model.specs.declared.expr.Expr.TheVariants as e
 use Rattle.cfj_model.specs.ExpressionGrammar.{ExprTree, spell_expr, roles_expr, value_expr}
 use Rattle.cfj_model.specs.Roles.{Role, plain, are_settled}
-use Rattle.cfj_model.specs.Tokens.{Token, Id, Semicolon, At, End}
+use Rattle.cfj_words.specs.Tokens.{Token, Id, Semicolon, At, End}
 use Rattle.expression_reader.specs.Machine as expression
 use Rattle.expression_reader.specs.Reading as reading
 use Rattle.expression_reader.specs.declared.frame.Frame.{Frame}

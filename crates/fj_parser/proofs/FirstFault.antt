@@ -6,8 +6,8 @@ use Rattle.std.proofs.lemmas.List.{length-take-le, take-append-drop}
 use Rattle.std.proofs.lemmas.Str.{utf8_valid_len-IsValidUpTo}
 use Rattle.cfj_model.specs.declared.fault.FaultKind.{FaultKind}
 use Rattle.cfj_model.specs.declared.fault.FaultKind.TheVariants as fault
-use Rattle.cfj_model.specs.Lexemes.{Lexeme, Lexed, Found, AtEnd, NoToken, NoClose, next_lexeme}
-use Rattle.cfj_model.specs.Tokens.{Token, End, token_of, token_seen, Takes, place_of}
+use Rattle.cfj_words.specs.Lexemes.{Lexeme, Lexed, Found, AtEnd, NoToken, NoClose, next_lexeme}
+use Rattle.cfj_words.specs.Tokens.{Token, End, token_of, token_seen, Takes, place_of}
 use Rattle.cfj_model.specs.Roles.{Role, plain, Tally, counted, tallied, broken_by, AreWithin}
 use Rattle.cfj_model.specs.Faults.{Language, IsTextOf, Begins, CanGoOn, IsMisplaced, reserved, other, no_name, Front, lexical_fault, IsLongest, before_no_lexeme, before_misplaced, before_the_end, StandsBehind, IsFirstFault, no_text, breaking, no_lexeme, no_place}
 use Rattle.fj_parser.specs.Laws.{Reads}

@@ -8,7 +8,7 @@ use Rattle.cfj_model.specs.declared.class.Field.{Field}
 use Rattle.cfj_model.specs.declared.class.Method.{Method}
 use Rattle.cfj_model.specs.ProductLines.{most_features}
 use Rattle.cfj_model.specs.Roles.{Tally, plain, tallied, AreWithin}
-use Rattle.cfj_model.specs.Tokens.{Token, Id, ClassWord, OpenParen, Semicolon, At, End}
+use Rattle.cfj_words.specs.Tokens.{Token, Id, ClassWord, OpenParen, Semicolon, At, End}
 use Rattle.expression_reader.specs.Machine as expression
 use Rattle.expression_reader.specs.declared.mode.Mode as reading
 use Rattle.expression_reader.specs.declared.mode.Mode.TheVariants as at

@@ -8,14 +8,14 @@ use Rattle.std.proofs.lemmas.List.Sums.{sum_by-cons}
 use Rattle.cfj_model.specs.declared.fault.FaultKind.TheVariants.{Reserved, Twice, Limit}
 use Rattle.cfj_model.specs.declared.fault.LimitKind.TheVariants as limit
 use Rattle.cfj_model.specs.declared.class.Class.{Class}
-use Rattle.cfj_model.specs.Names.{is_identifier, is_short_identifier}
-use Rattle.cfj_model.specs.Tokens.{Token, Id, ClassWord, ExtendsWord, Comma, OpenBrace, Semicolon, CloseBrace}
-use Rattle.cfj_model.specs.ProductLines.{most_features, most_classes, most_fields, most_methods, most_formula_nodes, most_size, object, has, are_new, are_fields, is_ctor, are_methods, is_class, is_constraint, method_size, class_size, size, IsProject}
-use Rattle.cfj_model.specs.declared.formula.Formula.{Formula}
+use Rattle.cfj_words.specs.Names.{is_among, is_identifier, is_short_identifier}
+use Rattle.cfj_words.specs.Tokens.{Token, Id, ClassWord, ExtendsWord, Comma, OpenBrace, Semicolon, CloseBrace}
+use Rattle.cfj_model.specs.ProductLines.{most_features, most_classes, most_fields, most_methods, most_formula_nodes, most_size, object, are_new, are_fields, is_ctor, are_methods, is_class, is_constraint, method_size, class_size, size, IsProject}
+use Rattle.cfj_logic.specs.declared.formula.Formula.{Formula}
 use Rattle.cfj_model.specs.FormulaGrammar.{IffTree, spell_iff, value_iff}
 use Rattle.formula_reader.proofs.Kept.{constraint_kept, Behind, behind_formula}
 use Rattle.formula_reader.proofs.Texts.{spell_iff_append}
-use Rattle.cfj_model.specs.Formulas.{formula_node_count}
+use Rattle.cfj_logic.specs.Formulas.{formula_node_count}
 use Rattle.cfj_model.specs.Grammar.{ClassTree, constraint_word, features_word, spell_name, spell_features, spell_field, spell_ctor, spell_method, spell_constraint, spell_class, spell, value_field, value_ctor, value_method, value_class, value, Tree}
 use Rattle.cfj_model.specs.Marks.{in_order, each_behind}
 use Rattle.cfj_model.specs.Roles.{Role, feature_name, class_name, used_name, plain, Tally, nothing, counted, is_long, past_size, broken_by, AreWithin}
@@ -29,13 +29,13 @@ use Rattle.fj_parser.proofs.KeptMembers.{FieldsKept, fields_kept, ctor_size, Cto
 -- a new name of a feature, with room for it
 record FeatureFits (w : List ℕ) (names : List (List ℕ)) : Type 0 where
   length_fits : is_long w ≡ false
-  new : has names w ≡ false
+  new : is_among names w ≡ false
   few : length names < most_features
 
 feature_fits : (t : Tally) (w : List ℕ) → broken_by t (feature_name w) ≡ None → FeatureFits w t.features
-feature_fits t w e = go (none_holds ((is_long w, Limit limit.Name) ∷ ((has t.features w, Twice w) ∷ ((nat_le most_features (length t.features), Limit limit.Features) ∷ []))) e)
+feature_fits t w e = go (none_holds ((is_long w, Limit limit.Name) ∷ ((is_among t.features w, Twice w) ∷ ((nat_le most_features (length t.features), Limit limit.Features) ∷ []))) e)
   where
-    go : NoneHolds ((is_long w, Limit limit.Name) ∷ ((has t.features w, Twice w) ∷ ((nat_le most_features (length t.features), Limit limit.Features) ∷ []))) → FeatureFits w t.features
+    go : NoneHolds ((is_long w, Limit limit.Name) ∷ ((is_among t.features w, Twice w) ∷ ((nat_le most_features (length t.features), Limit limit.Features) ∷ []))) → FeatureFits w t.features
     go (a, (b, (c, end))) = record { length_fits = a; new = b; few = leb-false _ _ c }
 
 -- what is known behind features
@@ -76,14 +76,14 @@ line_kept (f ∷ fs) rest more (word, w) r =
 record ClassFits (t : Tally) (w : List ℕ) : Type 0 where
   length_fits : is_long w ≡ false
   no_object : bytes_eq w object ≡ false
-  new : has t.classes w ≡ false
+  new : is_among t.classes w ≡ false
   few : length t.classes < most_classes
   small : t.size < most_size
 
 class_fits : (t : Tally) (w : List ℕ) → broken_by t (class_name w) ≡ None → ClassFits t w
-class_fits t w e = go (none_holds ((bytes_eq w object, Reserved) ∷ ((is_long w, Limit limit.Name) ∷ ((has t.classes w, Twice w) ∷ ((nat_le most_classes (length t.classes), Limit limit.Classes) ∷ (past_size t ∷ []))))) e)
+class_fits t w e = go (none_holds ((bytes_eq w object, Reserved) ∷ ((is_long w, Limit limit.Name) ∷ ((is_among t.classes w, Twice w) ∷ ((nat_le most_classes (length t.classes), Limit limit.Classes) ∷ (past_size t ∷ []))))) e)
   where
-    go : NoneHolds ((bytes_eq w object, Reserved) ∷ ((is_long w, Limit limit.Name) ∷ ((has t.classes w, Twice w) ∷ ((nat_le most_classes (length t.classes), Limit limit.Classes) ∷ (past_size t ∷ []))))) → ClassFits t w
+    go : NoneHolds ((bytes_eq w object, Reserved) ∷ ((is_long w, Limit limit.Name) ∷ ((is_among t.classes w, Twice w) ∷ ((nat_le most_classes (length t.classes), Limit limit.Classes) ∷ (past_size t ∷ []))))) → ClassFits t w
     go (a, (b, (c, (d, (f, end))))) = record { length_fits = b; no_object = a; new = c; few = leb-false _ _ d; small = leb-false _ _ f }
 
 -- what is known behind a class
@@ -95,7 +95,7 @@ record ClassKept (n : ℕ) (t : Tally) (k : Class) (rest : List Role) (more : Li
   sends : ℕ
   assigns : ℕ
   nodes : ℕ
-  new : has t.classes k.name ≡ false
+  new : is_among t.classes k.name ≡ false
   few : length t.classes < most_classes
   is : is_class n k ≡ true
   small : t.size + class_size k ≤ most_size

@@ -11,9 +11,9 @@ use Rattle.cfj_model.specs.declared.class.Field.{Field}
 use Rattle.cfj_model.specs.declared.class.Param.{Param}
 use Rattle.cfj_model.specs.declared.class.Sent.{Sent}
 use Rattle.cfj_model.specs.declared.class.Constructor.{Constructor}
-use Rattle.cfj_model.specs.Names.{is_identifier, is_short_identifier}
-use Rattle.cfj_model.specs.Tokens.{Token, Id, ThisWord, Dot, Equals, Comma, CloseParen, OpenBrace, SuperWord, OpenParen, Semicolon, CloseBrace, ReturnWord}
-use Rattle.cfj_model.specs.ProductLines.{most_fields, most_in_ctor, most_methods, most_size, has, are_new, rise_from, is_field, is_param, is_sent, is_ctor, is_method, method_size, most_params, are_params, is_body}
+use Rattle.cfj_words.specs.Names.{is_among, is_identifier, is_short_identifier}
+use Rattle.cfj_words.specs.Tokens.{Token, Id, ThisWord, Dot, Equals, Comma, CloseParen, OpenBrace, SuperWord, OpenParen, Semicolon, CloseBrace, ReturnWord}
+use Rattle.cfj_model.specs.ProductLines.{most_fields, most_in_ctor, most_methods, most_size, are_new, rise_from, is_field, is_param, is_sent, is_ctor, is_method, method_size, most_params, are_params, is_body}
 use Rattle.cfj_model.specs.Expressions.{node_count}
 use Rattle.cfj_model.specs.declared.class.Method.{Method}
 use Rattle.cfj_model.specs.Grammar.{Declared, Named, MethodTree, ClassTree, spell_field, spell_param, spell_sent, spell_assign, spell_ctor, spell_method, numbered, value_field, value_param, value_sent, value_ctor, value_method}
@@ -252,7 +252,7 @@ record MethodKept (n : ℕ) (t : Tally) (m : Method) (rest : List Role) (more : 
   marks : List (List ℕ)
   params : List (List ℕ)
   nodes : ℕ
-  new : has t.methods m.name ≡ false
+  new : is_among t.methods m.name ≡ false
   few : length t.methods < most_methods
   is : is_method n m ≡ true
   small : t.size + method_size m ≤ most_size

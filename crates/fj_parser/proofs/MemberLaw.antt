@@ -9,7 +9,7 @@ use Rattle.cfj_model.specs.ExpressionGrammar.{chain, variable, stop}
 use Rattle.cfj_model.specs.Grammar.{Declared, MethodTree, spell_field, spell_method, value_field, value_method}
 use Rattle.cfj_model.specs.Marks.{spell_marks, roles_marks, colors_of}
 use Rattle.cfj_model.specs.Roles.{Role, method_name, used_name, plain, are_settled}
-use Rattle.cfj_model.specs.Tokens.{Token, Id, CloseBrace, OpenParen, Semicolon, At, End}
+use Rattle.cfj_words.specs.Tokens.{Token, Id, CloseBrace, OpenParen, Semicolon, At, End}
 use Rattle.cfj_model.specs.TreeRoles.{roles_method}
 use Rattle.fj_parser.specs.declared.goal.Goal.TheVariants as goal
 use Rattle.fj_parser.specs.declared.mode.Mode.{Mode}

@@ -7,7 +7,7 @@ use Rattle.cfj_model.specs.ExpressionGrammar.{chain, variable, stop}
 use Rattle.cfj_model.specs.Grammar.{MethodTree, spell_method, value_method}
 use Rattle.cfj_model.specs.Marks.{spell_marks, roles_mark, roles_marks, color_of, colored, colors_of}
 use Rattle.cfj_model.specs.Roles.{Role, method_name, used_name, plain}
-use Rattle.cfj_model.specs.Tokens.{Token, Id, CloseBrace, OpenParen, At, End}
+use Rattle.cfj_words.specs.Tokens.{Token, Id, CloseBrace, OpenParen, At, End}
 use Rattle.cfj_model.specs.TreeRoles.{roles_method}
 use Rattle.fj_parser.specs.declared.goal.Goal.TheVariants as goal
 use Rattle.fj_parser.specs.declared.mode.Node.TheVariants as node

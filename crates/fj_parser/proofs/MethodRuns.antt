@@ -6,7 +6,7 @@ use Rattle.cfj_model.specs.ExpressionGrammar.{ExprTree, spell_expr, roles_expr, 
 use Rattle.cfj_model.specs.Grammar.{Declared, MethodTree, spell_param, value_method}
 use Rattle.cfj_model.specs.Marks.{each_behind, separated, spell_marks, color_of}
 use Rattle.cfj_model.specs.Roles.{Role, plain}
-use Rattle.cfj_model.specs.Tokens.{Token, Id, ReturnWord, OpenBrace, CloseBrace, OpenParen, CloseParen, Semicolon, Comma, End}
+use Rattle.cfj_words.specs.Tokens.{Token, Id, ReturnWord, OpenBrace, CloseBrace, OpenParen, CloseParen, Semicolon, Comma, End}
 use Rattle.expression_reader.specs.Machine as expression
 use Rattle.expression_reader.proofs.Complete.{text_runs}
 use Rattle.fj_parser.specs.declared.goal.Goal.{Goal}

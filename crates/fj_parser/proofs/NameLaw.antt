@@ -2,7 +2,7 @@
 use Rattle.std.proofs.Common.{◌≡◌, ℕ, suc, ◌+◌, true, false, List, [], ◌∷◌, ◌++◌, length, Some, None, refl, sym, ap, subst}
 use Rattle.std.proofs.lemmas.Option.{none-some, same_Some}
 use Rattle.cfj_model.specs.Roles.{Role, used_name, plain, are_settled}
-use Rattle.cfj_model.specs.Tokens.{Token, Id, End}
+use Rattle.cfj_words.specs.Tokens.{Token, Id, End}
 use Rattle.fj_parser.specs.Goals.{start_for, step_for, takes_name_for, reader_for}
 use Rattle.fj_parser.specs.Languages.{names}
 use Rattle.fj_parser.specs.Laws.{Closes, GoesByName, Reads}

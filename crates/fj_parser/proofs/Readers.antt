@@ -3,7 +3,7 @@
 use Rattle.std.proofs.Common.{◌≡◌, ℕ, suc, ◌+◌, ◌<◌, ◌≤◌, Bool, true, false, ◌&&◌, if◌then◌else◌, List, [], ◌∷◌, ◌++◌, length, Option, Some, None, refl, sym, ◌∙◌, ap, subst, arith, append_assoc, length-append, nat_le}
 use Rattle.std.proofs.lemmas.Bool.{leb-true, and_parts}
 use Rattle.std.proofs.lemmas.Option.{none-some, same_Some}
-use Rattle.cfj_model.specs.Tokens.{Token, Id, End, is_reserved_word}
+use Rattle.cfj_words.specs.Tokens.{Token, Id, End, is_reserved_word}
 use Rattle.cfj_model.specs.Roles.{Role, casts, plain, is_settled, are_settled}
 use Rattle.cfj_model.specs.declared.fault.FaultKind.TheVariants as fault
 use Rattle.cfj_model.specs.Faults.{Language, Begins, CanGoOn, IsMisplaced, reserved, other, no_name}

@@ -4,7 +4,7 @@ use Rattle.std.proofs.lemmas.List.{append-nil}
 use Rattle.std.proofs.lemmas.Option.{none-some, same_Some}
 use Rattle.cfj_model.specs.Faults.{Language}
 use Rattle.cfj_model.specs.Roles.{Role, plain, are_settled}
-use Rattle.cfj_model.specs.Tokens.{Token, Id, End}
+use Rattle.cfj_words.specs.Tokens.{Token, Id, End}
 use Rattle.fj_symbols.specs.Views.{are_read}
 use Rattle.fj_parser.specs.declared.goal.Goal.{Goal}
 use Rattle.fj_parser.specs.declared.mode.Mode.TheVariants.{AtEnd}

@@ -4,8 +4,8 @@ use Rattle.std.proofs.lemmas.Option.{same_Some}
 use Rattle.std.proofs.lemmas.Slice.Eq.{bytes_eq-Decides}
 use Rattle.std.specs.Str.{bytes_eq}
 use Rattle.cfj_model.specs.declared.class.Class.{Class}
-use Rattle.cfj_model.specs.Tokens.{Token, Id, ClassWord, ExtendsWord, OpenBrace, Semicolon, Comma, At, End}
-use Rattle.cfj_model.specs.declared.formula.Formula.{Formula}
+use Rattle.cfj_words.specs.Tokens.{Token, Id, ClassWord, ExtendsWord, OpenBrace, Semicolon, Comma, At, End}
+use Rattle.cfj_logic.specs.declared.formula.Formula.{Formula}
 use Rattle.cfj_model.specs.FormulaGrammar.{IffTree, spell_iff}
 use Rattle.cfj_model.specs.Grammar.{Declared, MethodTree, ClassTree, Tree, constraint_word, features_word, spell_name, spell_field, spell_ctor, spell_constraint, spell_class, spell, value_class}
 use Rattle.cfj_model.specs.Marks.{in_order, each_behind, spell_mark, spell_marks, color_of, colored, colors_of}

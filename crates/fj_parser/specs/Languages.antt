@@ -13,7 +13,7 @@ use Rattle.cfj_model.specs.Faults.{Language}
 use Rattle.cfj_model.specs.Grammar.{Declared, Named, MethodTree, ClassTree, Tree, spell, spell_ctor, spell_field, spell_method, spell_name, value, value_ctor, value_field, value_method}
 use Rattle.cfj_model.specs.Marks.{roles_marks}
 use Rattle.cfj_model.specs.Roles.{Role, Tally, method_name, nothing, plain, used_name}
-use Rattle.cfj_model.specs.Tokens.{Token}
+use Rattle.cfj_words.specs.Tokens.{Token}
 use Rattle.cfj_model.specs.TreeRoles.{roles, roles_ctor, roles_field, roles_method}
 
 -- these features were met, and nothing else

@@ -1,8 +1,8 @@
 -- What is known of a reader of a language.
 use Rattle.std.specs.Prelude.{◌≡◌, ℕ, suc, ◌+◌, ◌≤◌, true, false, List, [], ◌∷◌, ◌++◌, length, Some, None}
 use Rattle.cfj_model.specs.Faults.{Language}
-use Rattle.cfj_model.specs.Names.{is_identifier}
-use Rattle.cfj_model.specs.Tokens.{Token, Id, End}
+use Rattle.cfj_words.specs.Names.{is_identifier}
+use Rattle.cfj_words.specs.Tokens.{Token, Id, End}
 use Rattle.cfj_model.specs.Roles.{Role, casts, plain, are_settled}
 use Rattle.fj_symbols.specs.Views.{are_read}
 use Rattle.fj_parser.specs.Readers.{Reader, run_of}

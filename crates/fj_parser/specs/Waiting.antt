@@ -1,7 +1,7 @@
 -- What the tokens that wait stand for.
 use Rattle.std.specs.Prelude.{ℕ, Bool, true, false, List, [], ◌∷◌}
 use Rattle.cfj_model.specs.Roles.{Role, opens, plain, var_name, Tally, AreWithin}
-use Rattle.cfj_model.specs.Tokens.{Token}
+use Rattle.cfj_words.specs.Tokens.{Token}
 use Rattle.expression_reader.specs.Machine.{as_cast, settled}
 use Rattle.expression_reader.specs.declared.roles.Settling.{Settling}
 use Rattle.expression_reader.specs.declared.roles.Settling.TheVariants.{Stays, Cast}

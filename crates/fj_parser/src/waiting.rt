@@ -1,5 +1,5 @@
 ghost use Rattle.std.specs.Prelude.{◌≡◌, true};
-ghost use Rattle.cfj_model.specs.Names.{is_identifier};
+ghost use Rattle.cfj_words.specs.Names.{is_identifier};
 
 use cfj_model::FaultKind;
 use fj_symbols::Role;

@@ -2,8 +2,8 @@
 use Rattle.std.specs.Prelude.{ℕ, Bool, true, if◌then◌else◌, List, codes}
 use Rattle.std.specs.Str.{bytes_eq}
 use Rattle.std.specs.List.{list_all}
-use Rattle.cfj_model.specs.Names.{is_identifier, is_name}
-use Rattle.cfj_model.specs.Tokens as token
+use Rattle.cfj_words.specs.Names.{is_identifier, is_name}
+use Rattle.cfj_words.specs.Tokens as token
 use Rattle.cfj_model.specs.Roles as role
 use Rattle.fj_lexer.specs.declared.token.TokenKind.{TokenKind}
 use Rattle.fj_lexer.specs.declared.token.TokenKind.TheVariants.{Word, Reserved, Mark}

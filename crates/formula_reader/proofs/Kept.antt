@@ -10,16 +10,17 @@ use Rattle.std.specs.Str.{bytes_eq}
 use Rattle.cfj_model.specs.declared.fault.FaultKind.{FaultKind}
 use Rattle.cfj_model.specs.declared.fault.FaultKind.TheVariants.{NoFeature, Limit}
 use Rattle.cfj_model.specs.declared.fault.LimitKind.TheVariants as limit
-use Rattle.cfj_model.specs.declared.formula.Formula.{Formula}
-use Rattle.cfj_model.specs.declared.formula.Formula.TheVariants as f
-use Rattle.cfj_model.specs.declared.formula.Formula.TheFolds.{fold-Formula}
-use Rattle.cfj_model.specs.Formulas.{FormulaNesting, operand_depth, formula_nesting_step, formula_nest, formula_node_count}
+use Rattle.cfj_logic.specs.declared.formula.Formula.{Formula}
+use Rattle.cfj_logic.specs.declared.formula.Formula.TheVariants as f
+use Rattle.cfj_logic.specs.declared.formula.Formula.TheFolds.{fold-Formula}
+use Rattle.cfj_logic.specs.Formulas.{FormulaNesting, operand_depth, formula_nesting_step, formula_nest, formula_node_count}
 use Rattle.cfj_model.specs.FormulaGrammar.{IffTree, one_implies, iff, ImpliesTree, one_or, implies, OrTree, one_and, or, AndTree, one_unary, and, UnaryTree, negated, named, true_word, false_word, bracketed, roles_iff, roles_implies, roles_or, roles_and, roles_unary, feature_at, value_iff, value_implies, value_or, value_and, value_unary}
 use Rattle.cfj_model.specs.Marks.{in_order}
 use Rattle.cfj_model.specs.TreeRoles.{roles_constraint}
-use Rattle.cfj_model.specs.ProductLines.{most_nest, most_formula_nodes, has, is_constraint}
+use Rattle.cfj_model.specs.ProductLines.{most_nest, most_formula_nodes, is_constraint}
+use Rattle.cfj_words.specs.Names.{is_among}
 use Rattle.cfj_model.specs.Roles.{Role, formula_name, formula_node, formula_opens, opens, casts, plain, Tally, counted, tallied, first_of, is_long, past_formula, past_nest, past_nodes, past_size, broken_by, AreWithin}
-use Rattle.cfj_model.proofs.FormulaCases.{fold_true, fold_false, fold_feat, fold_not, fold_and, fold_or, fold_implies, fold_iff}
+use Rattle.cfj_logic.proofs.FormulaCases.{fold_true, fold_false, fold_feat, fold_not, fold_and, fold_or, fold_implies, fold_iff}
 use Rattle.formula_reader.proofs.Texts.{roles_iff_append}
 use Rattle.formula_reader.proofs.Values.{iff_over, with_formula, iff_adds}
 
@@ -63,7 +64,7 @@ shallow_within t (r ∷ rs) w = (shallow_role t r w.0, shallow_within (counted t
 -- nor does it pass the limit of formula nodes
 few_behind : (t : Tally) (r : Role) → t.formula_nodes ≤ most_formula_nodes → broken_by t r ≡ None → (counted t r).formula_nodes ≤ most_formula_nodes
 few_behind t (formula_name w) few e =
-    let room = leb-false _ _ (none_holds ((is_long w, Limit limit.Name) ∷ ((not (has t.features w), NoFeature w) ∷ (past_formula t ∷ []))) e).1.1.0 in
+    let room = leb-false _ _ (none_holds ((is_long w, Limit limit.Name) ∷ ((not (is_among t.features w), NoFeature w) ∷ (past_formula t ∷ []))) e).1.1.0 in
     omega (arith, room)
 few_behind t formula_node few e = let room = leb-false _ _ (none_holds (past_formula t ∷ []) e).0 in omega (arith, room)
 few_behind t (formula_opens n) few e = let room = leb-false _ _ (none_holds (past_formula t ∷ (past_nest n ∷ [])) e).0 in omega (arith, room)

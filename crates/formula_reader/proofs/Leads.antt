@@ -1,9 +1,9 @@
 -- How tokens lead to the end of a formula, step by step, for what reads a formula inside a longer text.
 use Rattle.std.proofs.Common.{◌≡◌, ℕ, Bool, true, false, List, [], ◌∷◌, Option, Some, None, refl, sym, ◌∙◌, ap, subst}
-use Rattle.cfj_model.specs.declared.formula.Formula.{Formula}
+use Rattle.cfj_logic.specs.declared.formula.Formula.{Formula}
 use Rattle.cfj_model.specs.FormulaGrammar.{IffTree, spell_iff, roles_iff, value_iff}
 use Rattle.cfj_model.specs.Roles.{Role, plain}
-use Rattle.cfj_model.specs.Tokens.{Token, Semicolon}
+use Rattle.cfj_words.specs.Tokens.{Token, Semicolon}
 use Rattle.formula_reader.specs.Machine.{State, start, done, step, role, is_done, Run, with_role, then_run, run}
 use Rattle.formula_reader.proofs.Complete.{formula_runs}
 use Rattle.formula_reader.proofs.Law.{some_same, done_stops, only_semicolon_ends}

@@ -2,7 +2,7 @@
 use Rattle.std.proofs.Common.{◌≡◌, ℕ, ◌+◌, List, ◌∷◌, ◌++◌, refl, ◌∙◌, ap}
 use Rattle.cfj_model.specs.FormulaGrammar.{IffTree, one_implies, iff, ImpliesTree, one_or, implies, OrTree, one_and, or, AndTree, one_unary, and, UnaryTree, negated, named, true_word, false_word, bracketed, spell_iff, spell_implies, spell_or, spell_and, spell_unary, roles_iff, roles_implies, roles_or, roles_and, roles_unary}
 use Rattle.cfj_model.specs.Roles.{Role, formula_node, formula_opens, opens, plain}
-use Rattle.cfj_model.specs.Tokens.{Token, OpenParen, CloseParen, Bang, Ampersand, Bar, Arrow, DoubleArrow}
+use Rattle.cfj_words.specs.Tokens.{Token, OpenParen, CloseParen, Bang, Ampersand, Bar, Arrow, DoubleArrow}
 
 mutual
   pub spell_iff_append : (x : IffTree) (us rest : List Token) → spell_iff x us ++ rest ≡ spell_iff x (us ++ rest)

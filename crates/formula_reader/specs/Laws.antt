@@ -1,10 +1,10 @@
 -- What holds of the machine, whatever the tokens.
 use Rattle.std.specs.Prelude.{◌≡◌, ℕ, ◌+◌, true, List, [], ◌∷◌, ◌++◌, length, Some, None, is_some}
 use Rattle.cfj_model.specs.FormulaGrammar.{IffTree, spell_iff, roles_iff, value_iff}
-use Rattle.cfj_model.specs.Formulas.{formula_node_count}
+use Rattle.cfj_logic.specs.Formulas.{formula_node_count}
 use Rattle.cfj_model.specs.ProductLines.{is_constraint}
 use Rattle.cfj_model.specs.Roles.{Role, plain, Tally, tallied, AreWithin}
-use Rattle.cfj_model.specs.Tokens.{Token, Id, Semicolon}
+use Rattle.cfj_words.specs.Tokens.{Token, Id, Semicolon}
 use Rattle.formula_reader.specs.Machine.{State, start, done, step, takes_name, is_done, run}
 use Rattle.formula_reader.specs.Reading.{IsFormula, BeginsFormula}
 

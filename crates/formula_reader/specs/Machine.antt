@@ -1,10 +1,10 @@
 -- The machine that reads one formula, a token at a time: how it goes on, and the role that it gives each token. What was read to
 -- the left of a connective waits in a frame until a token comes that binds no tighter.
 use Rattle.std.specs.Prelude.{ℕ, ◌+◌, Bool, true, false, nat_le, if◌then◌else◌, List, [], ◌∷◌, Option, Some, None}
-use Rattle.cfj_model.specs.declared.formula.Formula.{Formula}
-use Rattle.cfj_model.specs.declared.formula.Formula.TheVariants as f
+use Rattle.cfj_logic.specs.declared.formula.Formula.{Formula}
+use Rattle.cfj_logic.specs.declared.formula.Formula.TheVariants as f
 use Rattle.cfj_model.specs.FormulaGrammar.{feature_named}
-use Rattle.cfj_model.specs.Tokens.{Token, Id, TrueWord, FalseWord, OpenParen, CloseParen, Semicolon, Bang, Ampersand, Bar, Arrow, DoubleArrow}
+use Rattle.cfj_words.specs.Tokens.{Token, Id, TrueWord, FalseWord, OpenParen, CloseParen, Semicolon, Bang, Ampersand, Bar, Arrow, DoubleArrow}
 use Rattle.cfj_model.specs.Roles.{Role, formula_name, formula_node, formula_opens, opens, plain}
 use Rattle.formula_reader.specs.declared.frame.Frame.{Frame}
 use Rattle.formula_reader.specs.declared.frame.Frame.TheVariants.{InAnd, InOr, InImplies, InIff, InNot, InBracket}

@@ -2,7 +2,7 @@
 use Rattle.std.specs.Prelude.{◌≡◌, ℕ, List, ◌++◌, [], ◌∷◌, length}
 use Rattle.cfj_model.specs.FormulaGrammar.{IffTree, spell_iff, roles_iff, value_iff}
 use Rattle.cfj_model.specs.Roles.{Role, plain}
-use Rattle.cfj_model.specs.Tokens.{Token, Semicolon}
+use Rattle.cfj_words.specs.Tokens.{Token, Semicolon}
 use Rattle.formula_reader.specs.Machine.{State, done}
 
 -- The tokens are a formula's, with its semicolon, in these roles, and this state holds what it stands for.

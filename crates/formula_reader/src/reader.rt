@@ -23,7 +23,7 @@ pub struct FormulaReader {
 
 impl Model for FormulaReader {
     ghost use Rattle.std.specs.Coded.{codes};
-    ghost use Rattle.cfj_model.specs.contracts.formula.Formula as formula;
+    ghost use Rattle.cfj_logic.specs.contracts.formula.Formula as formula;
     ghost use Rattle.formula_reader.specs.Machine.{State, at};
 
     ghost Value = { State };

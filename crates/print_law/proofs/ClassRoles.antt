@@ -11,14 +11,14 @@ use Rattle.cfj_model.specs.declared.class.Param.{Param}
 use Rattle.cfj_model.specs.declared.class.Sent.{Sent}
 use Rattle.cfj_model.specs.declared.class.Method.{Method}
 use Rattle.cfj_model.specs.declared.class.Class.{Class}
-use Rattle.cfj_model.specs.declared.formula.Formula.{Formula}
+use Rattle.cfj_logic.specs.declared.formula.Formula.{Formula}
 use Rattle.cfj_model.specs.ExpressionGrammar.{roles_expr}
 use Rattle.cfj_model.specs.Expressions.{node_count}
-use Rattle.cfj_model.specs.Formulas.{formula_node_count}
+use Rattle.cfj_logic.specs.Formulas.{formula_node_count}
 use Rattle.cfj_model.specs.Grammar.{Declared}
 use Rattle.cfj_model.specs.Marks.{in_order, each_behind, separated, roles_marks}
-use Rattle.cfj_model.specs.Names.{is_short_identifier}
-use Rattle.cfj_model.specs.ProductLines.{ProductLine, IsProject, has, are_new, are_distinct, object, is_field, is_param, is_sent, is_method, is_class, is_constraint, method_size, class_size, most_features, most_classes, most_fields, most_in_ctor, most_params, most_methods, most_nodes, most_size, most_formula_nodes}
+use Rattle.cfj_words.specs.Names.{is_among, is_short_identifier}
+use Rattle.cfj_model.specs.ProductLines.{ProductLine, IsProject, are_new, are_distinct, object, is_field, is_param, is_sent, is_method, is_class, is_constraint, method_size, class_size, most_features, most_classes, most_fields, most_in_ctor, most_params, most_methods, most_nodes, most_size, most_formula_nodes}
 use Rattle.cfj_model.specs.ProductLines as project
 use Rattle.cfj_model.specs.Roles.{Role, param_name, method_param_name, used_name, plain, Tally, nothing, counted, broken_by, AreWithin}
 use Rattle.cfj_model.specs.TreeRoles.{roles_feature, roles_features, roles_field, roles_sent, roles_assign, roles_method, roles_constraint, roles_class, roles}
@@ -35,8 +35,8 @@ moved : (P : List (List ℕ) → ℕ → Type 0) (xs ys : List (List ℕ)) (m n 
 moved P xs ys m n e f h = subst (λ zs. P zs n) e (subst (P xs) f h)
 
 -- the first of new names, and the others behind it
-new_first : (before : List (List ℕ)) (w : List ℕ) (ws : List (List ℕ)) → are_new before (w ∷ ws) ≡ true → (has before w ≡ false) × (are_new (before ++ w ∷ []) ws ≡ true)
-new_first before w ws h = let p = and_parts (not (has before w)) (are_new (before ++ w ∷ []) ws) h in (not-true (has before w) p.0, p.1)
+new_first : (before : List (List ℕ)) (w : List ℕ) (ws : List (List ℕ)) → are_new before (w ∷ ws) ≡ true → (is_among before w ≡ false) × (are_new (before ++ w ∷ []) ws ≡ true)
+new_first before w ws h = let p = and_parts (not (is_among before w)) (are_new (before ++ w ∷ []) ws) h in (not-true (is_among before w) p.0, p.1)
 
 module _ (features : List (List ℕ)) (distinct : are_distinct features ≡ true) (well : list_all is_short_identifier features ≡ true) where
   abbrev count : ℕ
@@ -77,7 +77,7 @@ module _ (features : List (List ℕ)) (distinct : are_distinct features ≡ true
 
   -- the names of parameters in a role that is fine where there is room for one more
   record IsParamRole (role : List ℕ → Role) (most : ℕ) : Type 0 where
-    fine : (t : Tally) (w : List ℕ) → is_short_identifier w ≡ true → has t.params w ≡ false → length t.params < most → t.size < most_size → broken_by t (role w) ≡ None
+    fine : (t : Tally) (w : List ℕ) → is_short_identifier w ≡ true → is_among t.params w ≡ false → length t.params < most → t.size < most_size → broken_by t (role w) ≡ None
     counts : (t : Tally) (w : List ℕ) → counted t (role w) ≡ record t { marks = []; params = t.params ++ w ∷ []; size = t.size + 1 }
 
   module _ (role : List ℕ → Role) (most : ℕ) (is : IsParamRole role most) where
@@ -246,7 +246,7 @@ module _ (features : List (List ℕ)) (distinct : are_distinct features ≡ true
   Behind t k rest = (u : Tally) → u.features ≡ t.features → u.marks ≡ [] → u.formula_nodes ≡ t.formula_nodes → u.classes ≡ t.classes ++ k.name ∷ [] → u.size ≡ t.size + class_size k → AreWithin u rest
 
   -- a class within the limits, where there is room for it
-  pub class_within : (k : Class) (t : Tally) (rest : List Role) → is_class count k ≡ true → IsReady features t → has t.classes k.name ≡ false → length t.classes < most_classes → t.size + class_size k ≤ most_size
+  pub class_within : (k : Class) (t : Tally) (rest : List Role) → is_class count k ≡ true → IsReady features t → is_among t.classes k.name ≡ false → length t.classes < most_classes → t.size + class_size k ≤ most_size
       → Behind t k rest → AreWithin t (roles_class (tree_of_class features k) rest)
   class_within k t rest h r new few fits w =
       let c = class_kept count k h in

@@ -31,9 +31,10 @@ pub data Role : Type 0 where
   node : Role
   plain : Role
 
--- What has been met before a place: the features, the nodes of all formulas, all class names, the names of the class in hand,
--- the parameters of the list in hand, the nodes of the body in hand, the marks of the node in hand, which are those since the
--- last token that is no part of a mark, and the size.
+-- What has been met before a place: the features, the nodes of all formulas, the marks of the node in hand, all class names, the
+-- names of the class in hand, the parameters of the list in hand, the nodes of the body in hand, and the size. Marks end at a name
+-- that is declared or used, at a bracket that opens and at the own token of an expression's node: what else stands between, as
+-- `class` or `this`, ends none.
 pub record Tally : Type 0 where
   pub features : List (List ℕ)
   pub formula_nodes : ℕ

@@ -1,3 +1,5 @@
+//! Clauses over features.
+
 ghost use Rattle.std.specs.Prelude.{◌≡◌, ℕ, ◌≤◌, bit_and};
 ghost use Rattle.cfj_logic.specs.Sides.{is_empty, is_over, is_within};
 

@@ -1,3 +1,5 @@
+//! Problems: lists of clauses over numbered variables.
+
 use cfj_words::Items;
 
 /// A variable, and the value of it that makes a clause true.

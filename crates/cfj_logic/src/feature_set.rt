@@ -1,3 +1,5 @@
+//! Sets of features.
+
 ghost use Rattle.std.specs.Prelude.{◌≡◌, ℕ, ◌^◌, ◌<◌, ◌↔◌, ◌≢◌, IsTrue, IsBitSet, bit_or, bit_and, ◌==◌, ◌≤◌, nat_lt};
 ghost use Rattle.cfj_logic.specs.Selections.{has_bit, is_subset};
 

@@ -1,3 +1,5 @@
+//! Formulas over features.
+
 ghost use Rattle.std.specs.Prelude.{◌≡◌, IfOk};
 
 use cfj_words::{Boxed, Copied, both};

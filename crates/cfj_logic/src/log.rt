@@ -1,3 +1,5 @@
+//! Logs of clauses.
+
 ghost use Rattle.std.specs.Prelude.{◌≡◌, [], ◌∷◌, ◌++◌, IfOk, OnOk, OnErr};
 
 use crate::clause::Clause;

@@ -10,7 +10,7 @@ use Rattle.cfj_model.specs.ProductLines.{ProductLine}
 use Rattle.cfj_model.specs.declared.class.Class.{Class}
 use Rattle.cfj_model.specs.Grammar.{Tree, spell, value, ClassTree, spell_class, value_class}
 use Rattle.cfj_model.specs.TreeRoles.{roles, roles_class}
-use Rattle.cfj_model.specs.Roles.{Role, Tally, plain, nothing, tallied, broken_by, AreWithin, are_settled}
+use Rattle.cfj_model.specs.Roles.{Role, Tally, other_token, nothing, tallied, broken_by, AreWithin, are_settled}
 
 -- A language: its trees, the tokens that a tree spells, their roles, the value that a tree stands for, and what counts as met
 -- before a text begins.
@@ -52,7 +52,7 @@ pub record Begins {V : Type 0} (l : Language V) (front : List Token) (rs : List 
   pub more : List Token
   pub others : List Role
   pub text : l.spell tree (End ∷ []) ≡ front ++ more
-  pub in_roles : l.roles tree (plain ∷ []) ≡ rs ++ others
+  pub in_roles : l.roles tree (other_token ∷ []) ≡ rs ++ others
   pub each : length rs ≡ length front
 
 -- a text of the language can go on from here

@@ -1,3 +1,5 @@
+//! Classes, their members and what these are made of.
+
 ghost use Rattle.std.specs.Prelude.{◌≡◌, IfOk};
 
 use crate::colors::Colors;
@@ -171,7 +173,10 @@ impl Constructor {
     {
         let params = copied_items(alloc, &self.params);
         let sends = copied_items(alloc, &self.sends);
-        let (params, (sends, assigns)) = both(params, both(sends, copied_items(alloc, &self.assigns)))?;
+        let (params, (sends, assigns)) = both(
+            params,
+            both(sends, copied_items(alloc, &self.assigns)),
+        )?;
         Ok(Constructor {
             params,
             sends,
@@ -219,9 +224,14 @@ impl Class {
         ensures { IfOk result (λ class. class ≡ self.now) }
     {
         let names = both(self.name.copy(alloc), self.parent.copy(alloc));
-        let members = both(copied_items(alloc, &self.fields), copied_items(alloc, &self.methods));
-        let ((name, parent), (ctor, (fields, methods))) =
-            both(names, both(self.ctor.copy(alloc), members))?;
+        let members = both(
+            copied_items(alloc, &self.fields),
+            copied_items(alloc, &self.methods),
+        );
+        let ((name, parent), (ctor, (fields, methods))) = both(
+            names,
+            both(self.ctor.copy(alloc), members),
+        )?;
         Ok(Class {
             name,
             colors: self.colors,

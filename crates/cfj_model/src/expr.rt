@@ -1,3 +1,5 @@
+//! Expressions.
+
 ghost use Rattle.std.specs.Prelude.{◌≡◌, IfOk, take};
 
 use crate::colors::Colors;

@@ -1,3 +1,5 @@
+//! The faults of a text.
+
 ghost use Rattle.std.specs.Prelude.{Some};
 ghost use Rattle.cfj_model.specs.FaultTexts.{kind_text, limit_text};
 

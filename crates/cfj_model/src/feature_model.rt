@@ -1,3 +1,5 @@
+//! Feature models.
+
 ghost use Rattle.std.specs.Prelude.{◌≡◌, IfOk};
 
 use cfj_logic::Formula;

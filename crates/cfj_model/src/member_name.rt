@@ -1,3 +1,5 @@
+//! The names of members.
+
 ghost use Rattle.std.specs.Prelude.{◌≡◌, IfOk};
 
 use cfj_words::Name;

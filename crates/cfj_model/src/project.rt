@@ -1,3 +1,5 @@
+//! Product lines.
+
 ghost use Rattle.std.specs.Prelude.{◌≡◌, ◌<◌, IfOk, Some, length, slice_get, position};
 ghost use Rattle.std.specs.Str.{bytes_eq};
 ghost use Rattle.cfj_model.specs.ProductLines.{IsProject};

@@ -1,3 +1,5 @@
+//! Boxes that contracts see as what they hold.
+
 ghost use Rattle.std.specs.Prelude.{◌≡◌, IfOk};
 
 use std::alloc::{AllocError, Global};

@@ -1,3 +1,5 @@
+//! The first character of a text.
+
 ghost use Rattle.std.specs.Prelude.{◌≡◌, [], MatchOption};
 ghost use Rattle.cfj_words.specs.Characters.{IsSplit};
 

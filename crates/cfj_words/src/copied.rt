@@ -1,3 +1,5 @@
+//! Copies in memory of their own.
+
 ghost use Rattle.std.specs.Prelude.{◌≡◌, IfOk, Ok};
 
 use crate::items::Items;

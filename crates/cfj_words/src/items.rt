@@ -1,3 +1,5 @@
+//! Lists that contracts see as their items.
+
 ghost use Rattle.std.specs.Prelude.{◌≡◌};
 
 use std::marker::Model;

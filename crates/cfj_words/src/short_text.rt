@@ -1,3 +1,5 @@
+//! Texts that lie in their own value.
+
 ghost use Rattle.std.specs.Prelude.{◌≡◌, ◌≤◌, length};
 ghost use Rattle.std.specs.Str.{IsUtf8};
 

@@ -1,3 +1,5 @@
+//! The text of a name, wherever it lies.
+
 ghost use Rattle.std.specs.Prelude.{◌≡◌, IfOk};
 ghost use Rattle.cfj_words.specs.Spellings.{spelling_bytes};
 

@@ -14,7 +14,7 @@ use Rattle.cfj_words.specs.Tokens.{Token, Comma}
 use Rattle.cfj_model.specs.ProductLines.{most_size}
 use Rattle.cfj_model.specs.Expressions.{are_known}
 use Rattle.cfj_model.specs.Marks.{each_behind, separated, spell_marks, roles_marks, color_at, color_of, colored, colors_of}
-use Rattle.cfj_model.specs.Roles.{Role, used_name, plain, Tally, first_of, is_long, broken_by, AreWithin}
+use Rattle.cfj_model.specs.Roles.{Role, used_name, other_token, Tally, first_of, is_long, broken_by, AreWithin}
 use Rattle.fj_symbols.specs.Views.{are_read}
 
 -- no test holds
@@ -61,7 +61,7 @@ pub used_short : (w : List ℕ) (t : Tally) → is_identifier w ≡ true → bro
 used_short w t i e = short w i (none_holds ((is_long w, Limit limit.Name) ∷ []) e).0
 
 -- A comma before the first item changes nothing.
-pub separated_within : {A : Type 0} (t : Tally) (f : A → List Role → List Role) (xs : List A) (rest : List Role) → AreWithin t (separated plain f xs rest) → AreWithin t (each_behind plain f xs rest)
+pub separated_within : {A : Type 0} (t : Tally) (f : A → List Role → List Role) (xs : List A) (rest : List Role) → AreWithin t (separated other_token f xs rest) → AreWithin t (each_behind other_token f xs rest)
 separated_within t f [] rest w = w
 separated_within t f (x ∷ xs) rest w = (refl, w)
 

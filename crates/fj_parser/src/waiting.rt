@@ -49,7 +49,7 @@ impl<'a> Waiting<'a> {
             (Waiting::Bracket(bracket), Role::VarName(name)) => {
                 Waiting::Name(bracket, FirstName { name, at })
             }
-            (Waiting::Name(bracket, name), Role::Plain) => Waiting::Closed(bracket, name, at),
+            (Waiting::Name(bracket, name), Role::Other) => Waiting::Closed(bracket, name, at),
             _ => unreachable!(),
         }
     }

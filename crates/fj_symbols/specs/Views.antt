@@ -67,7 +67,7 @@ role_seen (r.FormulaOpens n) = role.formula_opens n
 role_seen (r.Opens n) = role.opens n
 role_seen (r.Casts n) = role.casts n
 role_seen r.Node = role.node
-role_seen r.Plain = role.plain
+role_seen r.Other = role.other_token
 
 -- the name in a role is an identifier
 abbrev pub is_identifier_role : role.Role → Bool

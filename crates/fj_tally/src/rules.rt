@@ -100,7 +100,7 @@ impl<'a> Tally<'a> {
             Role::Opens(depth) => Ok(self.broken_by_opens(depth)),
             Role::Casts(depth) => Ok(self.broken_by_cast(depth)),
             Role::Node => Ok(self.broken_by_node()),
-            Role::Plain => Ok(None),
+            Role::Other => Ok(None),
         }
     }
 

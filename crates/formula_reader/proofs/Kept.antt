@@ -19,7 +19,7 @@ use Rattle.cfj_model.specs.Marks.{in_order}
 use Rattle.cfj_model.specs.TreeRoles.{roles_constraint}
 use Rattle.cfj_model.specs.ProductLines.{most_nest, most_formula_nodes, is_constraint}
 use Rattle.cfj_words.specs.Names.{is_among}
-use Rattle.cfj_model.specs.Roles.{Role, formula_name, formula_node, formula_opens, opens, casts, plain, Tally, counted, tallied, first_of, is_long, past_formula, past_nest, past_nodes, past_size, broken_by, AreWithin}
+use Rattle.cfj_model.specs.Roles.{Role, formula_name, formula_node, formula_opens, opens, casts, other_token, Tally, counted, tallied, first_of, is_long, past_formula, past_nest, past_nodes, past_size, broken_by, AreWithin}
 use Rattle.cfj_logic.proofs.FormulaCases.{fold_true, fold_false, fold_feat, fold_not, fold_and, fold_or, fold_implies, fold_iff}
 use Rattle.formula_reader.proofs.Texts.{roles_iff_append}
 use Rattle.formula_reader.proofs.Values.{iff_over, with_formula, iff_adds}
@@ -175,7 +175,7 @@ module _ (features : List (List ℕ)) (most : ℕ) where
     unary_nested d true_word rest le w = by_parts most d 5 f.True _ rest (fold_true FormulaNesting formula_nesting_step) (omega arith) w.1
     unary_nested d false_word rest le w = by_parts most d 5 f.False _ rest (fold_false FormulaNesting formula_nesting_step) (omega arith) w.1
     unary_nested d (bracketed x) rest le w =
-        let a = iff_nested (d + 1) x (plain ∷ rest) w.0 w.1 in
+        let a = iff_nested (d + 1) x (other_token ∷ rest) w.0 w.1 in
         record { shallow = omega (arith, bracketed_depth 1 5 (nesting (value_iff features x)), a.shallow); behind = a.behind.1 }
 
   -- a formula nests no deeper than the roles of the text that was read
@@ -220,12 +220,12 @@ constraints_kept features t [] rest few w = record { marks = t.marks; each = ref
 constraints_kept features t (x ∷ xs) rest few w =
     let u : Tally = record t { marks = [] } in
     let n : ℕ = formula_node_count (value_iff features x) in
-    let b : Behind features u x (plain ∷ in_order roles_constraint xs rest) = behind_formula features u 0 x (plain ∷ in_order roles_constraint xs rest) few w.1 in
+    let b : Behind features u x (other_token ∷ in_order roles_constraint xs rest) = behind_formula features u 0 x (other_token ∷ in_order roles_constraint xs rest) few w.1 in
     let k : ConstraintsKept features (with_formula t b.marks n) xs rest = constraints_kept features (with_formula t b.marks n) xs rest b.few b.within.1 in
     let sum : n + sum_by formula_node_count (map (value_iff features) xs) ≡ sum_by formula_node_count (map (value_iff features) (x ∷ xs)) = sym (sum_by-cons formula_node_count (value_iff features x) (map (value_iff features) xs)) in
     record {
       marks = k.marks;
-      each = and_from _ _ (constraint_kept features u x (plain ∷ in_order roles_constraint xs rest) w.1) k.each;
+      each = and_from _ _ (constraint_kept features u x (other_token ∷ in_order roles_constraint xs rest) w.1) k.each;
       few = omega (arith, k.few, sum);
       within = subst (λ m. AreWithin (record t { marks = k.marks; formula_nodes = m }) rest) (omega (arith, sum)) k.within;
     }

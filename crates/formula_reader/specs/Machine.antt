@@ -5,7 +5,7 @@ use Rattle.cfj_logic.specs.declared.formula.Formula.{Formula}
 use Rattle.cfj_logic.specs.declared.formula.Formula.TheVariants as f
 use Rattle.cfj_model.specs.FormulaGrammar.{feature_named}
 use Rattle.cfj_words.specs.Tokens.{Token, Id, TrueWord, FalseWord, OpenParen, CloseParen, Semicolon, Bang, Ampersand, Bar, Arrow, DoubleArrow}
-use Rattle.cfj_model.specs.Roles.{Role, formula_name, formula_node, formula_opens, opens, plain}
+use Rattle.cfj_model.specs.Roles.{Role, formula_name, formula_node, formula_opens, opens, other_token}
 use Rattle.formula_reader.specs.declared.frame.Frame.{Frame}
 use Rattle.formula_reader.specs.declared.frame.Frame.TheVariants.{InAnd, InOr, InImplies, InIff, InNot, InBracket}
 use Rattle.formula_reader.specs.declared.mode.Mode.{Mode}
@@ -130,7 +130,7 @@ role s Ampersand = formula_node
 role s Bar = formula_node
 role s Arrow = formula_opens (depth (still_open 3 s.frames) + 1)
 role s DoubleArrow = formula_node
-role s t = plain
+role s t = other_token
 
 abbrev pub takes_name_in : Mode → Bool
 takes_name_in Want = true

@@ -55,7 +55,7 @@ impl FormulaReader {
             Symbol::Bang => Role::FormulaOpens(depth_within(self.frames.items()) + 1),
             Symbol::OpenParen => Role::Opens(depth_within(self.frames.items()) + 1),
             Symbol::Arrow => Role::FormulaOpens(depth_behind_left(self.frames.items()) + 1),
-            _ => Role::Plain,
+            _ => Role::Other,
         }
     }
 

@@ -9,7 +9,7 @@ use Rattle.cfj_words.specs.Names.{is_among, is_short_identifier}
 use Rattle.cfj_logic.specs.Formulas.{is_over_step, is_over, FormulaNesting, operand_depth, formula_nesting_step, formula_nest, formula_node_count_step, formula_node_count}
 use Rattle.cfj_model.specs.FormulaGrammar.{roles_iff, roles_implies, roles_or, roles_and, roles_unary, bracketed}
 use Rattle.cfj_model.specs.ProductLines.{most_nest, most_formula_nodes}
-use Rattle.cfj_model.specs.Roles.{Role, formula_name, formula_node, formula_opens, opens, plain, Tally, AreWithin}
+use Rattle.cfj_model.specs.Roles.{Role, formula_name, formula_node, formula_opens, opens, other_token, Tally, AreWithin}
 use Rattle.cfj_logic.proofs.FormulaCases.{Cases, by_cases, fold_true, fold_false, fold_feat, fold_not, fold_and, fold_or, fold_implies, fold_iff}
 use Rattle.print_law.proofs.Features.{has_named}
 use Rattle.print_law.proofs.FormulaTrees.{Shape, an_iff, an_implies, an_or, an_and, a_unary, to_iff, to_implies, to_or, to_and, to_unary, level_of, shape_step, shape, tree_of_formula, named_well}
@@ -70,11 +70,11 @@ module _ (features : List (List ℕ)) where
     );
   }
 
-  with_brackets : (b : ℕ → List Role → List Role) (n l : ℕ) → Fits features b n l → Fits features (λ d rest. opens (d + 1) ∷ b (d + 1) (plain ∷ rest)) (1 + n) l
+  with_brackets : (b : ℕ → List Role → List Role) (n l : ℕ) → Fits features b n l → Fits features (λ d rest. opens (d + 1) ∷ b (d + 1) (other_token ∷ rest)) (1 + n) l
   with_brackets b n l q = record {
     on = λ t d rest r deep few w. (
       opens_ok t (d + 1) (omega arith),
-      q.on (record t { marks = [] }) (d + 1) (plain ∷ rest) (record { met = r.met; marks = refl }) (omega arith) few
+      q.on (record t { marks = [] }) (d + 1) (other_token ∷ rest) (record { met = r.met; marks = refl }) (omega arith) few
           (refl, subst (λ ms. AreWithin (record t { marks = ms; formula_nodes = t.formula_nodes + l }) rest) r.marks w),
     );
   }

@@ -3,7 +3,7 @@ ghost use Rattle.plain_judge.specs.BodySites.{node_site};
 ghost use Rattle.plain_judge.specs.Pairs.{pairs_at};
 
 use crate::site_rules::add;
-use cfj_model::{Name, Rule, Site};
+use cfj_model::{Name, Rule, Site, SiteRef};
 use std::alloc::{AllocError, Global};
 
 /// The method whose nodes are listed.
@@ -30,10 +30,8 @@ impl Body<'_> {
     ) -> Result<(), AllocError>
         ensures { OnOk result (pairs.new.items ≡ pairs.old.items ++ pairs_at (node_site self.now slot) (rules.now ++ more.now)) }
     {
-        let class = self.class.copy(self.alloc)?;
-        let method = self.method.copy(self.alloc)?;
-        let site = Site::Node(class, method, self.alt, slot);
-        add(self.alloc, pairs, &site, rules)?;
-        add(self.alloc, pairs, &site, more)
+        let site = SiteRef::Node(self.class, self.method, self.alt, slot);
+        add(self.alloc, pairs, site, rules)?;
+        add(self.alloc, pairs, site, more)
     }
 }

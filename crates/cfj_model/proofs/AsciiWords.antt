@@ -2,7 +2,7 @@
 use Rattle.std.proofs.Common.{◌≡◌, ℕ, ◌<◌, ◌==◌, ◌||◌, ap}
 use Rattle.std.specs.Char.{is_ascii_alphabetic, is_ascii_alphanumeric}
 use Rattle.unicode_ident.proofs.IdentLemmas.{is_xid_start-ascii, is_xid_continue-ascii}
-use Rattle.cfj_model.specs.Names.{starts_word, continues_word}
+use Rattle.cfj_words.specs.Names.{starts_word, continues_word}
 
 pub starts_ascii : (c : ℕ) → c < 128 → starts_word c ≡ (is_ascii_alphabetic c || c == 95 || c == 36)
 starts_ascii c lt = ap (λ b. b || c == 95 || c == 36) (is_xid_start-ascii c lt)

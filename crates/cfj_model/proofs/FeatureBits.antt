@@ -4,7 +4,7 @@ use Rattle.std.specs.Int.{bit_at}
 use Rattle.std.proofs.lemmas.Bool.{eqb-true, eq-eqb}
 use Rattle.std.proofs.lemmas.Bool.Decides.{eqb_tells}
 use Rattle.std.proofs.lemmas.Nat.Bits.{bit_at-lt, bit_at_or, bit_at_and, bit_at-pow_same, bit_at-pow_other, bit_at-zero, same_from_bits}
-use Rattle.cfj_model.specs.Selections.{has_bit, is_subset}
+use Rattle.cfj_logic.specs.Selections.{has_bit, is_subset}
 
 -- after a feature is put into a set it is a member, and the others are as before
 pub has_bit_same : (n f : ℕ) → has_bit (bit_or n (2 ^ f)) f ≡ true

@@ -1,10 +1,10 @@
 -- Folds and induction over formulas, a case for each variant.
 use Rattle.std.proofs.Common.{◌≡◌, ℕ, ap, sym, ◌∙◌, subst}
-use Rattle.cfj_model.specs.declared.formula.Formula.{Formula}
-use Rattle.cfj_model.specs.declared.formula.Formula.TheOpen.{Formula-F}
-use Rattle.cfj_model.specs.declared.formula.Formula.TheVariants as f
-use Rattle.cfj_model.specs.declared.formula.Formula.TheViews.{roll-Formula}
-use Rattle.cfj_model.specs.declared.formula.Formula.TheFolds.{fold-Formula, fold-roll-Formula, ind-Formula, map-Formula}
+use Rattle.cfj_logic.specs.declared.formula.Formula.{Formula}
+use Rattle.cfj_logic.specs.declared.formula.Formula.TheOpen.{Formula-F}
+use Rattle.cfj_logic.specs.declared.formula.Formula.TheVariants as f
+use Rattle.cfj_logic.specs.declared.formula.Formula.TheViews.{roll-Formula}
+use Rattle.cfj_logic.specs.declared.formula.Formula.TheFolds.{fold-Formula, fold-roll-Formula, ind-Formula, map-Formula}
 
 -- a fold at each variant
 module _ (A : Type 0) (step : Formula-F A → A) where

@@ -5,7 +5,7 @@ use Rattle.std.specs.Str.{chars, is_utf8, all_scalars}
 use Rattle.unicode_ident.proofs.IdentLemmas.{is_xid_start-ascii, is_xid_continue-ascii}
 use Rattle.std.proofs.lemmas.Bool.{and_from}
 use Rattle.std.proofs.lemmas.Str.{chars-encodes, is_utf8-from_IsUtf8}
-use Rattle.cfj_model.specs.Names.{is_word, is_identifier, is_reserved}
+use Rattle.cfj_words.specs.Names.{is_word, is_identifier, is_reserved}
 use Rattle.cfj_model.specs.Grammar.{features_word, constraint_word}
 
 -- `features` is an identifier

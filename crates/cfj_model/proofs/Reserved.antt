@@ -5,7 +5,7 @@ use Rattle.std.specs.Str.{bytes_eq}
 use Rattle.std.proofs.lemmas.Bool.{eq-eqb}
 use Rattle.std.proofs.lemmas.Map.Views.{any-filter_same}
 use Rattle.std.proofs.lemmas.Slice.Eq.{bytes_eq-Decides}
-use Rattle.cfj_model.specs.Names.{first_byte, reserved_words, is_among, is_reserved}
+use Rattle.cfj_words.specs.Names.{first_byte, reserved_words, is_among, is_reserved}
 
 abbrev begins : ℕ → List ℕ → Bool
 begins c word = first_byte word == c

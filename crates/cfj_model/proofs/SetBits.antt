@@ -5,7 +5,7 @@ use Rattle.std.proofs.lemmas.Bool.Decides.{eqb_tells}
 use Rattle.std.proofs.lemmas.Nat.{one_shl, or_lt, pow_pos}
 use Rattle.std.proofs.lemmas.Nat.Bits.{and_pow, bit_at-lt}
 use Rattle.std.proofs.Math.Pow.{pow-lt}
-use Rattle.cfj_model.specs.Selections.{has_bit}
+use Rattle.cfj_logic.specs.Selections.{has_bit}
 
 positive_not_zero : (m : ℕ) → 0 < m → nat_eq m 0 ≡ false
 positive_not_zero m lt = go (eqb_tells m 0)

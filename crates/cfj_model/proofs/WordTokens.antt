@@ -2,8 +2,8 @@
 use Rattle.std.proofs.Common.{◌≡◌, ℕ, Bool, true, false, if◌then◌else◌, codes, List, refl, sym, ap, ◌∙◌, true≢false}
 use Rattle.std.specs.Str.{bytes_eq}
 use Rattle.std.proofs.lemmas.Slice.Eq.{bytes_eq-Decides}
-use Rattle.cfj_model.specs.Names.{is_reserved}
-use Rattle.cfj_model.specs.Tokens.{Token, Id, word_token}
+use Rattle.cfj_words.specs.Names.{is_reserved}
+use Rattle.cfj_words.specs.Tokens.{Token, Id, word_token}
 
 other_word : (w keyword : List ℕ) → is_reserved keyword ≡ true → is_reserved w ≡ false → bytes_eq w keyword ≡ false
 other_word w keyword is free = go (bytes_eq w keyword) refl

@@ -5,8 +5,8 @@ use Rattle.cfj_model.specs.declared.expr.Arg.{Arg}
 use Rattle.cfj_model.specs.declared.expr.Expr.{Expr}
 use Rattle.cfj_model.specs.declared.expr.Expr.TheVariants as e
 use Rattle.cfj_model.specs.Marks.{spell_marks, roles_marks, colors_of}
-use Rattle.cfj_model.specs.Tokens.{Token, Id, NewWord, ThisWord, OpenParen, CloseParen, Comma, Dot}
-use Rattle.cfj_model.specs.Roles.{Role, casts, node, opens, plain, used_name, var_name}
+use Rattle.cfj_words.specs.Tokens.{Token, Id, NewWord, ThisWord, OpenParen, CloseParen, Comma, Dot}
+use Rattle.cfj_model.specs.Roles.{Role, casts, node, opens, other_token, used_name, var_name}
 
 mutual
   -- expr: cast, or chain; a cast is "(" id ")" expr
@@ -66,19 +66,19 @@ abbrev mutual
 -- end of its operand.
 abbrev mutual
   pub roles_expr : ℕ → ExprTree → List Role → List Role
-  roles_expr d (cast c t) rest = casts (d + 1) ∷ (used_name c ∷ (plain ∷ roles_expr (d + 1) t rest))
+  roles_expr d (cast c t) rest = casts (d + 1) ∷ (used_name c ∷ (other_token ∷ roles_expr (d + 1) t rest))
   roles_expr d (chain s ss) rest = roles_start d s (roles_steps d ss rest)
 
   pub roles_start : ℕ → StartTree → List Role → List Role
   roles_start d (variable w) rest = var_name w ∷ rest
   roles_start d this_word rest = node ∷ rest
-  roles_start d (made c xs) rest = node ∷ (used_name c ∷ (opens (d + 1) ∷ roles_args (d + 1) xs (plain ∷ rest)))
-  roles_start d (bracket t) rest = opens (d + 1) ∷ roles_expr (d + 1) t (plain ∷ rest)
+  roles_start d (made c xs) rest = node ∷ (used_name c ∷ (opens (d + 1) ∷ roles_args (d + 1) xs (other_token ∷ rest)))
+  roles_start d (bracket t) rest = opens (d + 1) ∷ roles_expr (d + 1) t (other_token ∷ rest)
 
   pub roles_steps : ℕ → StepsTree → List Role → List Role
   roles_steps d stop rest = rest
   roles_steps d (get f ss) rest = node ∷ (used_name f ∷ roles_steps d ss rest)
-  roles_steps d (call m xs ss) rest = node ∷ (used_name m ∷ (opens (d + 1) ∷ roles_args (d + 1) xs (plain ∷ roles_steps d ss rest)))
+  roles_steps d (call m xs ss) rest = node ∷ (used_name m ∷ (opens (d + 1) ∷ roles_args (d + 1) xs (other_token ∷ roles_steps d ss rest)))
 
   pub roles_args : ℕ → ArgsTree → List Role → List Role
   roles_args d no_args rest = rest
@@ -86,7 +86,7 @@ abbrev mutual
 
   pub roles_more_args : ℕ → MoreArgsTree → List Role → List Role
   roles_more_args d no_more rest = rest
-  roles_more_args d (next_arg ms t ts) rest = plain ∷ roles_marks ms (roles_expr d t (roles_more_args d ts rest))
+  roles_more_args d (next_arg ms t ts) rest = other_token ∷ roles_marks ms (roles_expr d t (roles_more_args d ts rest))
 
 -- An expression or arguments, and the next slot. A node takes its slot at its own token.
 abbrev pub Numbered : Type 0 → Type 0

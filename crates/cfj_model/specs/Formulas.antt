@@ -1,9 +1,9 @@
 -- What a formula over features means.
 use Rattle.std.specs.Prelude.{ℕ, ◌+◌, Bool, true, false, not, ◌&&◌, ◌||◌, nat_lt, max, if◌then◌else◌}
-use Rattle.cfj_model.specs.Selections.{Chosen, is_on}
-use Rattle.cfj_model.specs.declared.formula.Formula.{Formula}
-use Rattle.cfj_model.specs.declared.formula.Formula.TheOpen.{Formula-F}
-use Rattle.cfj_model.specs.declared.formula.Formula.TheFolds.{fold-Formula}
+use Rattle.cfj_logic.specs.Selections.{Chosen, is_on}
+use Rattle.cfj_logic.specs.declared.formula.Formula.{Formula}
+use Rattle.cfj_logic.specs.declared.formula.Formula.TheOpen.{Formula-F}
+use Rattle.cfj_logic.specs.declared.formula.Formula.TheFolds.{fold-Formula}
 
 -- the truth value of a formula, from those of its parts
 abbrev pub truth_step : Chosen → Formula-F Bool → Bool

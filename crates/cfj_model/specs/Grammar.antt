@@ -10,7 +10,7 @@ use Rattle.cfj_model.specs.ProductLines.{ProductLine}
 use Rattle.cfj_model.specs.ExpressionGrammar.{ExprTree, spell_expr, value_expr}
 use Rattle.cfj_model.specs.FormulaGrammar.{IffTree, spell_iff, value_iff}
 use Rattle.cfj_model.specs.Marks.{in_order, each_behind, separated, spell_marks, colors_of}
-use Rattle.cfj_model.specs.Tokens.{Token, Id, ClassWord, ExtendsWord, SuperWord, ThisWord, ReturnWord, OpenBrace, CloseBrace, OpenParen, CloseParen, Semicolon, Comma, Dot, Equals}
+use Rattle.cfj_words.specs.Tokens.{Token, Id, ClassWord, ExtendsWord, SuperWord, ThisWord, ReturnWord, OpenBrace, CloseBrace, OpenParen, CloseParen, Semicolon, Comma, Dot, Equals}
 
 -- marks, a type and a name: of a field, or of a parameter
 pub record Declared : Type 0 where

@@ -1,7 +1,7 @@
 -- The lexical grammar: blanks, comments, words and punctuation, on the characters of a text.
 use Rattle.std.specs.Prelude.{ℕ, Bool, ◌||◌, ◌==◌, if◌then◌else◌, List, [], ◌∷◌}
 use Rattle.std.specs.List.{list_any}
-use Rattle.cfj_model.specs.Names.{starts_word, continues_word}
+use Rattle.cfj_words.specs.Names.{starts_word, continues_word}
 
 -- space, tab, line feed, carriage return, form feed
 abbrev pub is_blank : ℕ → Bool

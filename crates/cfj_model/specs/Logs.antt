@@ -1,10 +1,11 @@
 -- Logs of clauses that follow by unit clauses, after reverse unit propagation (Goldberg and Novikov, DATE 2003).
 use Rattle.std.specs.Prelude.{◌≡◌, ℕ, zero, suc, ◌+◌, ◌<◌, ◌≤◌, Bool, true, false, ◌⊎◌, if◌then◌else◌, List, [], ◌∷◌, ◌++◌, take, map, replicate, slice_get, Some, None, All, bit_and}
-use Rattle.cfj_model.specs.declared.clauses.Literal.{Literal}
-use Rattle.cfj_model.specs.declared.clauses.Clauses.{Clauses}
-use Rattle.cfj_model.specs.Selections.{has_bit, Chosen, is_on, choices}
-use Rattle.cfj_model.specs.Sides.{Sides, empty_clause, is_over, is_within}
-use Rattle.cfj_model.specs.UnitClauses.{Has, Values, value_of, with_false, Reaches, Leads}
+use Rattle.cfj_logic.specs.declared.clauses.Literal.{Literal}
+use Rattle.cfj_logic.specs.declared.clauses.Clauses.{Clauses}
+use Rattle.cfj_logic.specs.Selections.{has_bit, Chosen, is_on, choices}
+use Rattle.cfj_logic.specs.Sides.{Sides, empty_clause, is_over, is_within}
+use Rattle.cfj_words.specs.Lists.{Has}
+use Rattle.cfj_logic.specs.UnitClauses.{Values, value_of, with_false, Reaches, Leads}
 
 -- each variable of the clause is below this number
 abbrev pub AreBelow : ℕ → List Literal → Type 0

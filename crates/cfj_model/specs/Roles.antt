@@ -4,8 +4,8 @@ use Rattle.std.specs.Str.{bytes_eq}
 use Rattle.cfj_model.specs.declared.fault.FaultKind.{FaultKind}
 use Rattle.cfj_model.specs.declared.fault.FaultKind.TheVariants.{Reserved, NoFeature, Twice, Limit}
 use Rattle.cfj_model.specs.declared.fault.LimitKind.TheVariants as limit
-use Rattle.cfj_model.specs.Names.{most_name_bytes}
-use Rattle.cfj_model.specs.ProductLines.{has, object, most_features, most_classes, most_fields, most_methods, most_params, most_in_ctor, most_formula_nodes, most_nest, most_nodes, most_size}
+use Rattle.cfj_words.specs.Names.{is_among, most_name_bytes}
+use Rattle.cfj_model.specs.ProductLines.{object, most_features, most_classes, most_fields, most_methods, most_params, most_in_ctor, most_formula_nodes, most_nest, most_nodes, most_size}
 
 -- What a token is. Names: of a declared feature, in a mark, in a formula, of a class, a field, a method, a parameter of a
 -- constructor, one of a method, sent, the first of an assignment, of a variable, and any other. In formulas: a constant or a
@@ -120,14 +120,14 @@ past_size t = (nat_le most_size t.size, Limit limit.Size)
 
 -- Which rule or limit a token in this role breaks behind these, the first of them in the order of the faults of one token.
 abbrev pub broken_by : Tally → Role → Option FaultKind
-broken_by t (feature_name w) = first_of ((is_long w, Limit limit.Name) ∷ ((has t.features w, Twice w) ∷ ((nat_le most_features (length t.features), Limit limit.Features) ∷ [])))
-broken_by t (mark_name w) = first_of ((is_long w, Limit limit.Name) ∷ ((not (has t.features w), NoFeature w) ∷ ((has t.marks w, Twice w) ∷ [])))
-broken_by t (formula_name w) = first_of ((is_long w, Limit limit.Name) ∷ ((not (has t.features w), NoFeature w) ∷ (past_formula t ∷ [])))
-broken_by t (class_name w) = first_of ((bytes_eq w object, Reserved) ∷ ((is_long w, Limit limit.Name) ∷ ((has t.classes w, Twice w) ∷ ((nat_le most_classes (length t.classes), Limit limit.Classes) ∷ (past_size t ∷ [])))))
-broken_by t (field_name w) = first_of ((is_long w, Limit limit.Name) ∷ ((has t.fields w, Twice w) ∷ ((nat_le most_fields (length t.fields), Limit limit.Fields) ∷ (past_size t ∷ []))))
-broken_by t (method_name w) = first_of ((is_long w, Limit limit.Name) ∷ ((has t.methods w, Twice w) ∷ ((nat_le most_methods (length t.methods), Limit limit.Methods) ∷ (past_size t ∷ []))))
-broken_by t (param_name w) = first_of ((is_long w, Limit limit.Name) ∷ ((has t.params w, Twice w) ∷ ((nat_le most_in_ctor (length t.params), Limit limit.Ctor) ∷ (past_size t ∷ []))))
-broken_by t (method_param_name w) = first_of ((is_long w, Limit limit.Name) ∷ ((has t.params w, Twice w) ∷ ((nat_le most_params (length t.params), Limit limit.Params) ∷ (past_size t ∷ []))))
+broken_by t (feature_name w) = first_of ((is_long w, Limit limit.Name) ∷ ((is_among t.features w, Twice w) ∷ ((nat_le most_features (length t.features), Limit limit.Features) ∷ [])))
+broken_by t (mark_name w) = first_of ((is_long w, Limit limit.Name) ∷ ((not (is_among t.features w), NoFeature w) ∷ ((is_among t.marks w, Twice w) ∷ [])))
+broken_by t (formula_name w) = first_of ((is_long w, Limit limit.Name) ∷ ((not (is_among t.features w), NoFeature w) ∷ (past_formula t ∷ [])))
+broken_by t (class_name w) = first_of ((bytes_eq w object, Reserved) ∷ ((is_long w, Limit limit.Name) ∷ ((is_among t.classes w, Twice w) ∷ ((nat_le most_classes (length t.classes), Limit limit.Classes) ∷ (past_size t ∷ [])))))
+broken_by t (field_name w) = first_of ((is_long w, Limit limit.Name) ∷ ((is_among t.fields w, Twice w) ∷ ((nat_le most_fields (length t.fields), Limit limit.Fields) ∷ (past_size t ∷ []))))
+broken_by t (method_name w) = first_of ((is_long w, Limit limit.Name) ∷ ((is_among t.methods w, Twice w) ∷ ((nat_le most_methods (length t.methods), Limit limit.Methods) ∷ (past_size t ∷ []))))
+broken_by t (param_name w) = first_of ((is_long w, Limit limit.Name) ∷ ((is_among t.params w, Twice w) ∷ ((nat_le most_in_ctor (length t.params), Limit limit.Ctor) ∷ (past_size t ∷ []))))
+broken_by t (method_param_name w) = first_of ((is_long w, Limit limit.Name) ∷ ((is_among t.params w, Twice w) ∷ ((nat_le most_params (length t.params), Limit limit.Params) ∷ (past_size t ∷ []))))
 broken_by t (sent_name w) = first_of ((is_long w, Limit limit.Name) ∷ ((nat_le most_in_ctor t.sends, Limit limit.Ctor) ∷ (past_size t ∷ [])))
 broken_by t (assigned_name w) = first_of ((is_long w, Limit limit.Name) ∷ ((nat_le most_in_ctor t.assigns, Limit limit.Ctor) ∷ (past_size t ∷ [])))
 broken_by t (var_name w) = first_of ((is_long w, Limit limit.Name) ∷ (past_nodes t ∷ (past_size t ∷ [])))

@@ -1,6 +1,6 @@
 -- Clauses over features.
 use Rattle.std.specs.Prelude.{ℕ, ◌^◌, Bool, ◌==◌, ◌&&◌, nat_lt}
-use Rattle.cfj_model.specs.Selections.{is_subset}
+use Rattle.cfj_logic.specs.Selections.{is_subset}
 
 -- a clause over features: one of `on` is selected, or one of `off` isn't
 pub record Sides : Type 0 where

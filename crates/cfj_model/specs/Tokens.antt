@@ -1,8 +1,8 @@
 -- The tokens that the grammar speaks of, and how a text gives them, with their places.
 use Rattle.std.specs.Prelude.{◌≡◌, ℕ, ◌-◌, Bool, true, false, if◌then◌else◌, List, [], ◌∷◌, length, codes, encode_utf8_all, Option, Some, None}
 use Rattle.std.specs.Str.{bytes_eq}
-use Rattle.cfj_model.specs.Names.{is_reserved}
-use Rattle.cfj_model.specs.Lexemes.{Lexeme, Word, Mark, Lexed, Found, AtEnd, NoToken, NoClose, next_lexeme}
+use Rattle.cfj_words.specs.Names.{is_reserved}
+use Rattle.cfj_words.specs.Lexemes.{Lexeme, Word, Mark, Lexed, Found, AtEnd, NoToken, NoClose, next_lexeme}
 
 -- An identifier with its text; a reserved word, by itself where the grammar uses it; a punctuation text; the end of the text.
 pub data Token : Type 0 where

@@ -1,6 +1,6 @@
 -- What unit clauses lead to, over clauses that are read as sets of literals (unit resolution: Davis and Putnam, JACM 7(3), 1960).
 use Rattle.std.specs.Prelude.{◌≡◌, ℕ, Bool, not, ◌⊎◌, List, slice_get, slice_set, get_or, Option, Some, None}
-use Rattle.cfj_model.specs.declared.clauses.Literal.{Literal}
+use Rattle.cfj_logic.specs.declared.clauses.Literal.{Literal}
 
 -- x is an item of the list
 abbrev pub Has : {A : Type 0} → List A → A → Type 0

@@ -1,9 +1,9 @@
 -- Which selections of a model's features are valid.
 use Rattle.std.specs.Prelude.{◌≡◌, ℕ, true, false, List, take, slice_get, Some}
 use Rattle.std.specs.List.{list_all}
-use Rattle.cfj_model.specs.Formulas.{truth}
-use Rattle.cfj_model.specs.Selections.{Chosen}
-use Rattle.cfj_model.specs.declared.formula.Formula.{Formula}
+use Rattle.cfj_logic.specs.Formulas.{truth}
+use Rattle.cfj_logic.specs.Selections.{Chosen}
+use Rattle.cfj_logic.specs.declared.formula.Formula.{Formula}
 
 -- every constraint is true
 abbrev pub IsValid : List Formula → Chosen → Type 0

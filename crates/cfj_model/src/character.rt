@@ -1,5 +1,5 @@
 ghost use Rattle.std.specs.Prelude.{◌≡◌, [], MatchOption};
-ghost use Rattle.cfj_model.specs.Characters.{IsSplit};
+ghost use Rattle.cfj_words.specs.Characters.{IsSplit};
 
 /// The first character of a text and the text behind it; `None` where the text is empty.
 pub fn split_first(text: &str) -> Option<(char, &str)>

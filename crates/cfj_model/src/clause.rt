@@ -1,5 +1,5 @@
 ghost use Rattle.std.specs.Prelude.{◌≡◌, ℕ, ◌≤◌, bit_and};
-ghost use Rattle.cfj_model.specs.Sides.{is_empty, is_over, is_within};
+ghost use Rattle.cfj_logic.specs.Sides.{is_empty, is_over, is_within};
 
 use crate::feature_set::FeatureSet;
 use std::marker::Model;
@@ -15,7 +15,7 @@ pub struct Clause {
 
 impl Model for Clause {
     ghost use Rattle.std.specs.Prelude.{◌≡◌, bit_and};
-    ghost use Rattle.cfj_model.specs.Sides.{Sides};
+    ghost use Rattle.cfj_logic.specs.Sides.{Sides};
 
     ghost Value = { Sides };
 

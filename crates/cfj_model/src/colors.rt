@@ -1,5 +1,5 @@
 ghost use Rattle.std.specs.Prelude.{◌≡◌, ℕ, ◌^◌, ◌<◌, ◌↔◌, IsTrue, IsBitSet, bit_or};
-ghost use Rattle.cfj_model.specs.Selections.{has_bit};
+ghost use Rattle.cfj_logic.specs.Selections.{has_bit};
 
 use std::marker::Model;
 

@@ -1,5 +1,5 @@
 ghost use Rattle.std.specs.Prelude.{◌≡◌, ℕ, ◌^◌, ◌<◌, ◌↔◌, ◌≢◌, IsTrue, IsBitSet, bit_or, bit_and, ◌==◌, ◌≤◌, nat_lt};
-ghost use Rattle.cfj_model.specs.Selections.{has_bit, is_subset};
+ghost use Rattle.cfj_logic.specs.Selections.{has_bit, is_subset};
 
 use std::marker::Model;
 

@@ -14,7 +14,7 @@ pub struct Log {
 
 impl Model for Log {
     ghost use Rattle.std.specs.Prelude.{List};
-    ghost use Rattle.cfj_model.specs.Sides.{Sides};
+    ghost use Rattle.cfj_logic.specs.Sides.{Sides};
 
     ghost Value = { List Sides };
 

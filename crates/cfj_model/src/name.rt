@@ -1,7 +1,7 @@
 ghost use Rattle.std.specs.Prelude.{◌≡◌, ℕ, ◌≤◌, true, false, IfOk, IfSome, IfNone, IsTrue, length};
 ghost use Rattle.std.specs.List.{list_all, list_any};
 ghost use Rattle.std.specs.Str.{chars, bytes_eq};
-ghost use Rattle.cfj_model.specs.Names as spec;
+ghost use Rattle.cfj_words.specs.Names as spec;
 
 use crate::character::split_first;
 use crate::copied::Copied;
@@ -132,8 +132,8 @@ pub struct Name {
 
 impl Model for Name {
     ghost use Rattle.std.specs.Prelude.{◌≡◌, List, ℕ, true};
-    ghost use Rattle.cfj_model.specs.Names.{is_name};
-    ghost use Rattle.cfj_model.specs.Spellings.{spelling_bytes};
+    ghost use Rattle.cfj_words.specs.Names.{is_name};
+    ghost use Rattle.cfj_words.specs.Spellings.{spelling_bytes};
 
     ghost Value = { List ℕ };
 

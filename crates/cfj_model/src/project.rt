@@ -22,7 +22,7 @@ pub struct Project {
 impl Model for Project {
     ghost use Rattle.cfj_model.specs.ProductLines.{ProductLine, IsProject};
     ghost use Rattle.cfj_model.specs.contracts.expr.Expr as expr;
-    ghost use Rattle.cfj_model.specs.contracts.formula.Formula as formula;
+    ghost use Rattle.cfj_logic.specs.contracts.formula.Formula as formula;
     ghost use Rattle.std.specs.Coded.{codes};
 
     ghost Value = { ProductLine };

@@ -1,5 +1,5 @@
 ghost use Rattle.std.specs.Prelude.{◌≡◌, ℕ, ◌^◌, ◌<◌, ◌≤◌, ◌↔◌, ◌≢◌, IsTrue, IsBitSet, bit_or, true};
-ghost use Rattle.cfj_model.specs.Selections.{is_on, is_subset};
+ghost use Rattle.cfj_logic.specs.Selections.{is_on, is_subset};
 
 use crate::colors::Colors;
 use std::marker::Model;
@@ -15,7 +15,7 @@ pub struct Selection {
 
 impl Model for Selection {
     ghost use Rattle.std.specs.Prelude.{◌<◌, ◌≤◌, ◌^◌};
-    ghost use Rattle.cfj_model.specs.Selections.{Chosen};
+    ghost use Rattle.cfj_logic.specs.Selections.{Chosen};
 
     ghost Value = { Chosen };
 

@@ -1,5 +1,5 @@
 ghost use Rattle.std.specs.Prelude.{◌≡◌, IfOk};
-ghost use Rattle.cfj_model.specs.Spellings.{spelling_bytes};
+ghost use Rattle.cfj_words.specs.Spellings.{spelling_bytes};
 
 use crate::boxed::Boxed;
 use crate::short_text::{MOST_SHORT_BYTES, ShortText};

@@ -5,9 +5,9 @@ use Rattle.cfj_model.specs.Judging.{Breaks, RuleAt, Pair, first_breaking, judged
 use Rattle.cfj_model.specs.LookUps.{Table}
 use Rattle.cfj_model.specs.ProductLines.{IsProject, ProductLine}
 use Rattle.cfj_model.specs.Projection.{projected}
-use Rattle.cfj_model.specs.Selections.{Chosen}
+use Rattle.cfj_logic.specs.Selections.{Chosen}
 use Rattle.cfj_model.specs.Typing.{IsWellTyped}
-use Rattle.cfj_model.specs.UnitClauses.{Has}
+use Rattle.cfj_words.specs.Lists.{Has}
 use Rattle.unit_facts.specs.Diagnostics.{AreExact, BreaksIn, IsChecked, IsNever, IsValidFor}
 use Rattle.unit_facts.specs.declared.entry.Verdict.{Verdict}
 use Rattle.feature_views.proofs.Variants.{variant_is_project}

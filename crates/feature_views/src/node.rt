@@ -1,5 +1,5 @@
 ghost use Rattle.std.specs.Prelude.{◌≡◌, ℕ, IfOk};
-ghost use Rattle.cfj_model.specs.Selections.{Chosen};
+ghost use Rattle.cfj_logic.specs.Selections.{Chosen};
 ghost use Rattle.feature_views.specs.Selected.{selected_nodes};
 
 use crate::expr::selected_expr;

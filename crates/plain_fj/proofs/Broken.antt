@@ -9,7 +9,7 @@ use Rattle.cfj_model.specs.LookUps.{Table, ancestors, field_called, first_some}
 use Rattle.cfj_model.specs.Judging.{Breaks, RuleAt, JudgedExpr, Pair, Ruling, environment_of, first_breaking, judged, judged_at, judged_class, judged_expr, pair_of}
 use Rattle.cfj_model.specs.ProductLines.{ProductLine, IsProject}
 use Rattle.cfj_model.specs.Typing.{IsWellTyped}
-use Rattle.cfj_model.specs.UnitClauses.{Has}
+use Rattle.cfj_words.specs.Lists.{Has}
 use Rattle.cfj_model.specs.declared.class.Class.{Class}
 use Rattle.cfj_model.specs.declared.class.Field.{Field}
 use Rattle.cfj_model.specs.declared.class.Method.{Method}

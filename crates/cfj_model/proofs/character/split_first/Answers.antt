@@ -1,7 +1,7 @@
 use Rattle.std.proofs.Common.{◌≡◌, ◌++◌, length, length-append, sym, ap, ◌∙◌, arith}
 use Rattle.std.specs.Prelude.{encode_utf8}
 use Rattle.std.proofs.lemmas.Str.{chars_past_char, length-encode, len_utf8_bounds}
-use Rattle.cfj_model.proofs.character.split_first.Goals as goal
+use Rattle.cfj_words.proofs.character.split_first.Goals as goal
 
 pub returns : goal.returns
 returns c =

@@ -1,7 +1,7 @@
 use Rattle.std.proofs.Common.{rules}
 use Rattle.std.proofs.lemmas.Str.{is_utf8-from_IsUtf8}
-use Rattle.cfj_model.specs.Names.{is_identifier}
-use Rattle.cfj_model.proofs.name.is_identifier.Goals as goal
+use Rattle.cfj_words.specs.Names.{is_identifier}
+use Rattle.cfj_words.proofs.name.is_identifier.Goals as goal
 
 pub returns-then-is_word : goal.returns-then-is_word
 unfolding is_identifier

@@ -1,7 +1,7 @@
 use Rattle.std.proofs.Common.{ap, refl, sym, ◌∙◌, rules}
 use Rattle.std.proofs.lemmas.Bool.{ne_eqb}
-use Rattle.cfj_model.proofs.Reserved.{among_those, begins_word, of_no_byte}
-use Rattle.cfj_model.proofs.name.is_reserved.Goals as goal
+use Rattle.cfj_words.proofs.Reserved.{among_those, begins_word, of_no_byte}
+use Rattle.cfj_words.proofs.name.is_reserved.Goals as goal
 
 pub returns-in-95 : goal.returns-in-95
 returns-in-95 c = c.is_among.ensures ∙ among_those 95 c.args.text.now (sym c.first_byte.ensures ∙ c.in-95.is)

@@ -1,6 +1,6 @@
 use Rattle.std.proofs.Common.{rules}
 use Rattle.std.proofs.lemmas.Str.{chars-nil}
-use Rattle.cfj_model.proofs.name.is_word.Goals as goal
+use Rattle.cfj_words.proofs.name.is_word.Goals as goal
 
 pub returns-then-starts_word : goal.returns-then-starts_word
 returns-then-starts_word c = rw c.in-Some.ensures.characters (search rules)

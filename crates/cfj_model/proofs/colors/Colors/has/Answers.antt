@@ -1,6 +1,6 @@
 use Rattle.std.proofs.Common.{◌∙◌, ap}
-use Rattle.cfj_model.specs.Selections.{has_bit}
-use Rattle.cfj_model.proofs.SetBits.{tests_bit}
+use Rattle.cfj_logic.specs.Selections.{has_bit}
+use Rattle.cfj_logic.proofs.SetBits.{tests_bit}
 use Rattle.cfj_model.proofs.colors.Colors.has.Goals as goal
 
 pub returns-clause-member : goal.returns-clause-member

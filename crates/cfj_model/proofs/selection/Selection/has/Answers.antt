@@ -1,7 +1,7 @@
 use Rattle.std.proofs.Common.{◌≡◌, ◌∙◌, ap, arith}
-use Rattle.cfj_model.specs.Selections.{Chosen, is_on}
-use Rattle.cfj_model.proofs.SetBits.{tests_bit}
-use Rattle.cfj_model.proofs.selection.Selection.has.Goals as goal
+use Rattle.cfj_logic.specs.Selections.{Chosen, is_on}
+use Rattle.cfj_logic.proofs.SetBits.{tests_bit}
+use Rattle.cfj_logic.proofs.selection.Selection.has.Goals as goal
 
 pub returns-clause-selected : goal.returns-clause-selected
 returns-clause-selected c =

@@ -1,7 +1,7 @@
 use Rattle.std.proofs.Common.{◌≡◌, ap, arith}
-use Rattle.cfj_model.specs.Selections.{Chosen}
-use Rattle.cfj_model.proofs.SetBits.{with_within}
-use Rattle.cfj_model.proofs.selection.Selection.with.Goals as goal
+use Rattle.cfj_logic.specs.Selections.{Chosen}
+use Rattle.cfj_logic.proofs.SetBits.{with_within}
+use Rattle.cfj_logic.proofs.selection.Selection.with.Goals as goal
 
 pub invariant_of-result : goal.invariant_of-result
 invariant_of-result c =

@@ -40,19 +40,19 @@ mutual
 -- the tokens of a tree, and what follows
 abbrev mutual
   pub spell_expr : ExprTree → List Token → List Token
-  spell_expr (cast c t) rest = OpenParen ∷ (Id c ∷ (CloseParen ∷ spell_expr t rest))
+  spell_expr (cast c t) rest = OpenParen ∷ Id c ∷ CloseParen ∷ spell_expr t rest
   spell_expr (chain s ss) rest = spell_start s (spell_steps ss rest)
 
   pub spell_start : StartTree → List Token → List Token
   spell_start (variable w) rest = Id w ∷ rest
   spell_start this_word rest = ThisWord ∷ rest
-  spell_start (made c xs) rest = NewWord ∷ (Id c ∷ (OpenParen ∷ spell_args xs (CloseParen ∷ rest)))
+  spell_start (made c xs) rest = NewWord ∷ Id c ∷ OpenParen ∷ spell_args xs (CloseParen ∷ rest)
   spell_start (bracket t) rest = OpenParen ∷ spell_expr t (CloseParen ∷ rest)
 
   pub spell_steps : StepsTree → List Token → List Token
   spell_steps stop rest = rest
-  spell_steps (get f ss) rest = Dot ∷ (Id f ∷ spell_steps ss rest)
-  spell_steps (call m xs ss) rest = Dot ∷ (Id m ∷ (OpenParen ∷ spell_args xs (CloseParen ∷ spell_steps ss rest)))
+  spell_steps (get f ss) rest = Dot ∷ Id f ∷ spell_steps ss rest
+  spell_steps (call m xs ss) rest = Dot ∷ Id m ∷ OpenParen ∷ spell_args xs (CloseParen ∷ spell_steps ss rest)
 
   pub spell_args : ArgsTree → List Token → List Token
   spell_args no_args rest = rest
@@ -66,19 +66,19 @@ abbrev mutual
 -- end of its operand.
 abbrev mutual
   pub roles_expr : ℕ → ExprTree → List Role → List Role
-  roles_expr d (cast c t) rest = casts (d + 1) ∷ (used_name c ∷ (other_token ∷ roles_expr (d + 1) t rest))
+  roles_expr d (cast c t) rest = casts (d + 1) ∷ used_name c ∷ other_token ∷ roles_expr (d + 1) t rest
   roles_expr d (chain s ss) rest = roles_start d s (roles_steps d ss rest)
 
   pub roles_start : ℕ → StartTree → List Role → List Role
   roles_start d (variable w) rest = var_name w ∷ rest
   roles_start d this_word rest = node ∷ rest
-  roles_start d (made c xs) rest = node ∷ (used_name c ∷ (opens (d + 1) ∷ roles_args (d + 1) xs (other_token ∷ rest)))
+  roles_start d (made c xs) rest = node ∷ used_name c ∷ opens (d + 1) ∷ roles_args (d + 1) xs (other_token ∷ rest)
   roles_start d (bracket t) rest = opens (d + 1) ∷ roles_expr (d + 1) t (other_token ∷ rest)
 
   pub roles_steps : ℕ → StepsTree → List Role → List Role
   roles_steps d stop rest = rest
-  roles_steps d (get f ss) rest = node ∷ (used_name f ∷ roles_steps d ss rest)
-  roles_steps d (call m xs ss) rest = node ∷ (used_name m ∷ (opens (d + 1) ∷ roles_args (d + 1) xs (other_token ∷ roles_steps d ss rest)))
+  roles_steps d (get f ss) rest = node ∷ used_name f ∷ roles_steps d ss rest
+  roles_steps d (call m xs ss) rest = node ∷ used_name m ∷ opens (d + 1) ∷ roles_args (d + 1) xs (other_token ∷ roles_steps d ss rest)
 
   pub roles_args : ℕ → ArgsTree → List Role → List Role
   roles_args d no_args rest = rest

@@ -50,7 +50,7 @@ rank E8 = 16
 -- one more item in its place by rank, behind those that rank lower
 abbrev pub insert_ranked : {A : Type 0} → (A → ℕ) → A → List A → List A
 insert_ranked rank_of x [] = x ∷ []
-insert_ranked rank_of x (y ∷ ys) = if nat_lt (rank_of y) (rank_of x) then y ∷ insert_ranked rank_of x ys else x ∷ (y ∷ ys)
+insert_ranked rank_of x (y ∷ ys) = if nat_lt (rank_of y) (rank_of x) then y ∷ insert_ranked rank_of x ys else x ∷ y ∷ ys
 
 -- one more ruling, in its place among those of its site
 abbrev pub with_ruling : Ruling → List Ruling → List Ruling
@@ -161,7 +161,7 @@ judged_call p slot on m args =
     let f : Fit = fit_of p args ts (option_map (λ (d : Method). param_types d.params) d) in
     record {
       type = result_type (fits f) d;
-      rules = λ more. on.rules [] ++ (slot, (E3, is_some on.type && is_some ts && not (is_some d)) ∷ ((E4, f.differs) ∷ more)) ∷ argument_rules E5 args f.misfits;
+      rules = λ more. on.rules [] ++ (slot, (E3, is_some on.type && is_some ts && not (is_some d)) ∷ (E4, f.differs) ∷ more) ∷ argument_rules E5 args f.misfits;
     }
 
 -- the types of a class's fields, where the class is known
@@ -208,7 +208,7 @@ judged_expr p g = fold-Expr JudgedExpr JudgedExpr (judged_step p g) judged_arg
 abbrev pub judged_field : Table → Class → Field → List RuleAt
 judged_field p k f =
     judged_at (site.Field k.name f.name f.alt)
-    ((K1, not (is_known p f.of)) ∷ ((K3, list_any (λ a. is_some (field_called f.name a)) (ancestors p k.name)) ∷ []))
+    ((K1, not (is_known p f.of)) ∷ (K3, list_any (λ a. is_some (field_called f.name a)) (ancestors p k.name)) ∷ [])
 
 -- the parameters of the constructor are the fields, by types and by names
 abbrev pub takes_fields : List Param → List Field → Bool
@@ -218,8 +218,8 @@ abbrev pub judged_ctor : Table → Class → List RuleAt
 judged_ctor p k =
     judged_at (site.Ctor k.name)
     ((K4, not (takes_fields k.ctor.params (all_fields p k.name)))
-    ∷ ((K5, not (are_same (map (λ s. s.name) k.ctor.sends) (map (λ f. f.name) (all_fields p k.parent))))
-    ∷ ((K6, not (are_same (map (λ a. a.name) k.ctor.assigns) (map (λ f. f.name) k.fields))) ∷ [])))
+    ∷ (K5, not (are_same (map (λ s. s.name) k.ctor.sends) (map (λ f. f.name) (all_fields p k.parent))))
+    ∷ (K6, not (are_same (map (λ a. a.name) k.ctor.assigns) (map (λ f. f.name) k.fields))) ∷ [])
     ++ flat_map (λ (c : Param). judged_at (site.CtorParam k.name c.slot) ((K1, not (is_known p c.of)) ∷ [])) k.ctor.params
 
 -- the method that the nearest ancestor declares has other parameter types or another result
@@ -240,8 +240,8 @@ judged_method p k m =
     let body : JudgedExpr = judged_expr p (environment_of k m) m.body in
     judged_at (site.Method k.name m.name m.alt)
     ((K1, not (is_known p m.result))
-    ∷ ((K7, is_overridden_wrongly m (first_some (method_called m.name) (ancestors p k.name)))
-    ∷ ((K8, is_no_result p m body.type) ∷ [])))
+    ∷ (K7, is_overridden_wrongly m (first_some (method_called m.name) (ancestors p k.name)))
+    ∷ (K8, is_no_result p m body.type) ∷ [])
     ++ (flat_map (λ (q : Param). judged_at (site.Param k.name m.name m.alt q.slot) ((K1, not (is_known p q.of)) ∷ [])) m.params
     ++ flat_map (λ (n : ℕ × List Ruling). judged_at (site.Node k.name m.name m.alt n.0) n.1) (body.rules []))
 
@@ -251,7 +251,7 @@ extends_itself p k = list_any (λ a. bytes_eq a.parent k.name) (chain p k.name)
 
 abbrev pub judged_class : Table → Class → List RuleAt
 judged_class p k =
-    judged_at (site.Class k.name) ((K1, not (is_known p k.parent)) ∷ ((K2, extends_itself p k) ∷ []))
+    judged_at (site.Class k.name) ((K1, not (is_known p k.parent)) ∷ (K2, extends_itself p k) ∷ [])
     ++ (flat_map (judged_field p k) k.fields ++ (judged_ctor p k ++ flat_map (judged_method p k) k.methods))
 
 -- all pairs of a project, in the order of the text, the rules of a site in their order

@@ -21,7 +21,7 @@ separated comma spell (x ∷ xs) rest = spell x (each_behind comma spell xs rest
 
 -- "@" id
 abbrev pub spell_mark : List ℕ → List Token → List Token
-spell_mark m rest = At ∷ (Id m ∷ rest)
+spell_mark m rest = At ∷ Id m ∷ rest
 
 -- marks: {"@" id}
 abbrev pub spell_marks : List (List ℕ) → List Token → List Token
@@ -29,7 +29,7 @@ spell_marks = in_order spell_mark
 
 -- the roles of their tokens
 abbrev pub roles_mark : List ℕ → List Role → List Role
-roles_mark m rest = other_token ∷ (mark_name m ∷ rest)
+roles_mark m rest = other_token ∷ mark_name m ∷ rest
 
 abbrev pub roles_marks : List (List ℕ) → List Role → List Role
 roles_marks = in_order roles_mark

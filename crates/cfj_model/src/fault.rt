@@ -1,7 +1,9 @@
+//! The faults of a text.
+
 ghost use Rattle.std.specs.Prelude.{Some};
 ghost use Rattle.cfj_model.specs.FaultTexts.{kind_text, limit_text};
 
-use crate::name::Name;
+use cfj_words::Name;
 use std::alloc::{AllocError, AllocFailed};
 use std::fmt;
 

@@ -1,11 +1,12 @@
+//! Product lines.
+
 ghost use Rattle.std.specs.Prelude.{◌≡◌, ◌<◌, IfOk, Some, length, slice_get, position};
 ghost use Rattle.std.specs.Str.{bytes_eq};
 ghost use Rattle.cfj_model.specs.ProductLines.{IsProject};
 
 use crate::class::Class;
 use crate::feature_model::FeatureModel;
-use crate::items::Items;
-use crate::name::Name;
+use cfj_words::{Items, Name};
 use std::alloc::AllocError;
 use std::marker::Model;
 use std::sync::Arc;

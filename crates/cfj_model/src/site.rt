@@ -3,8 +3,8 @@ ghost use Rattle.std.specs.Prelude.{◌≡◌, Some, IfOk};
 ghost use Rattle.cfj_model.specs.Judging.{rank};
 ghost use Rattle.cfj_model.specs.Sites as spec;
 
-use crate::name::Name;
 use crate::site_ref::SiteRef;
+use cfj_words::Name;
 use std::alloc::{AllocError, Global};
 use std::fmt;
 

@@ -1,10 +1,10 @@
 //! References to the nodes of a project, and their paths as text.
+
 ghost use Rattle.std.specs.Prelude.{◌≡◌, Some, IfOk};
 ghost use Rattle.cfj_model.specs.Sites as spec;
 
-use crate::copied::Copied;
-use crate::name::Name;
 use crate::site::Site;
+use cfj_words::{Name, both};
 use std::alloc::{AllocError, Global};
 use std::fmt;
 
@@ -33,14 +33,6 @@ pub enum SiteRef<'a> {
     Node(&'a Name, &'a Name, u16, u16),
 }
 
-/// Copies of two items.
-fn copies<T: Copied + Drop>(alloc: Global, first: &T, second: &T) -> Result<(T, T), AllocError>
-    ensures { IfOk result (λ copies. (copies.0 ≡ first.now) × (copies.1 ≡ second.now)) }
-{
-    let first = first.copied(alloc)?;
-    Ok((first, second.copied(alloc)?))
-}
-
 impl SiteRef<'_> {
     /// The site that this names, over names in memory of its own.
     pub fn to_site(self, alloc: Global) -> Result<Site, AllocError>
@@ -50,7 +42,7 @@ impl SiteRef<'_> {
             SiteRef::Model => Ok(Site::Model),
             SiteRef::Class(class) => Ok(Site::Class(class.copy(alloc)?)),
             SiteRef::Field(class, field, alt) => {
-                let (class, field) = copies(alloc, class, field)?;
+                let (class, field) = both(class.copy(alloc), field.copy(alloc))?;
                 Ok(Site::Field(class, field, alt))
             }
             SiteRef::Ctor(class) => Ok(Site::Ctor(class.copy(alloc)?)),
@@ -58,15 +50,15 @@ impl SiteRef<'_> {
             SiteRef::SuperArg(class, slot) => Ok(Site::SuperArg(class.copy(alloc)?, slot)),
             SiteRef::Assign(class, slot) => Ok(Site::Assign(class.copy(alloc)?, slot)),
             SiteRef::Method(class, method, alt) => {
-                let (class, method) = copies(alloc, class, method)?;
+                let (class, method) = both(class.copy(alloc), method.copy(alloc))?;
                 Ok(Site::Method(class, method, alt))
             }
             SiteRef::Param(class, method, alt, slot) => {
-                let (class, method) = copies(alloc, class, method)?;
+                let (class, method) = both(class.copy(alloc), method.copy(alloc))?;
                 Ok(Site::Param(class, method, alt, slot))
             }
             SiteRef::Node(class, method, alt, slot) => {
-                let (class, method) = copies(alloc, class, method)?;
+                let (class, method) = both(class.copy(alloc), method.copy(alloc))?;
                 Ok(Site::Node(class, method, alt, slot))
             }
         }

@@ -34,7 +34,7 @@ pub fn selected<N: Node + Drop>(
     let nodes = nodes.slice();
     let mut kept = Vec::with_capacity(alloc, nodes.len())?;
     'nodes: for node in nodes {
-        if selection.includes(node.colors()) {
+        if node.colors().is_kept_by(selection) {
             kept.push(node.kept(alloc, selection)?)?;
         }
     }

@@ -1,5 +1,5 @@
 ghost use Rattle.std.specs.Prelude.{◌≡◌};
-ghost use Rattle.unit_facts.specs.Findings.{is_broken};
+ghost use Rattle.unit_facts.specs.Diagnostics.{is_broken};
 
 use cfj_model::{Log, Rule, Selection, Site};
 

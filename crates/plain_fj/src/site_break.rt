@@ -1,3 +1,5 @@
+//! A rule that breaks at a site.
+
 ghost use Rattle.std.specs.Prelude.{◌≡◌, [], ◌∷◌, IfOk, OnOk};
 ghost use Rattle.cfj_model.specs.Judging.{judged_at};
 ghost use Rattle.cfj_model.specs.Sites.{site_ref_seen};

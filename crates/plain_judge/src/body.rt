@@ -1,4 +1,5 @@
 //! The method whose nodes are listed.
+
 ghost use Rattle.std.specs.Prelude.{◌≡◌, ◌∷◌, ◌++◌, OnOk};
 ghost use Rattle.cfj_model.specs.Judging.{insert_ranked, rank};
 ghost use Rattle.plain_judge.specs.BodySites.{node_site};

@@ -1,4 +1,5 @@
 //! The rules at the nodes of an expression.
+
 ghost use Rattle.std.specs.Prelude.{◌≡◌, ◌++◌, IfOk, OnOk};
 ghost use Rattle.plain_judge.specs.BodySites.{node_site};
 ghost use Rattle.plain_judge.specs.Pairs.{arg_pairs, node_pairs, pairs_at};

@@ -1,4 +1,5 @@
 //! The rules at one site.
+
 ghost use Rattle.std.specs.Prelude.{◌≡◌, ◌≤◌, ◌∷◌, ◌++◌, OnOk, drop, length, take};
 ghost use Rattle.cfj_model.specs.Judging.{insert_ranked, rank};
 ghost use Rattle.cfj_model.specs.Sites.{site_ref_seen};

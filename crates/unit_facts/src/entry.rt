@@ -1,3 +1,5 @@
+//! What is found of a pair, and of a feature model.
+
 ghost use Rattle.std.specs.Prelude.{◌≡◌};
 ghost use Rattle.unit_facts.specs.Diagnostics.{is_broken};
 

@@ -3,7 +3,7 @@ use Rattle.std.proofs.lemmas.Option.{slice_get_read}
 use Rattle.cfj_words.specs.Names.{is_name}
 use Rattle.cfj_model.specs.Roles.{broken_by, feature_name}
 use Rattle.fj_parser.proofs.PartFeatures.{feature_fits}
-use Rattle.fj_parser.proofs.part.Part.tally.Goals as goal
+use Rattle.fj_parser.proofs.part.Part.count_features.Goals as goal
 
 pub count_feature-requires : goal.count_feature-requires
 count_feature-requires c =

@@ -1,3 +1,5 @@
+//! The rules of a whole project.
+
 ghost use Rattle.std.specs.Prelude.{◌≡◌, ◌↔◌, None, IfOk, map};
 ghost use Rattle.cfj_model.specs.Judging.{Breaks, first_breaking};
 ghost use Rattle.cfj_model.specs.ProductLines.{IsProject};

@@ -1,3 +1,5 @@
+//! The pairs of a site and a rule of a project.
+
 ghost use Rattle.std.specs.Prelude.{◌≡◌, ◌++◌, [], IfOk, OnOk, flat_map};
 ghost use Rattle.cfj_model.specs.Judging.{pairs_of};
 ghost use Rattle.plain_judge.specs.Pairs as spec;

@@ -1,35 +1,12 @@
-ghost use Rattle.std.specs.Prelude.{◌≡◌, ◌++◌, IfOk, OnOk};
-ghost use Rattle.plain_judge.specs.Pairs.{pairs_at};
+//! The rules at one site.
+
+ghost use Rattle.std.specs.Prelude.{◌≡◌, ◌≤◌, ◌∷◌, ◌++◌, OnOk, drop, length, take};
+ghost use Rattle.cfj_model.specs.Judging.{insert_ranked, rank};
 ghost use Rattle.cfj_model.specs.Sites.{site_ref_seen};
+ghost use Rattle.plain_judge.specs.Pairs.{pairs_at};
 
 use cfj_model::{Rule, Site, SiteRef};
 use std::alloc::{AllocError, Global};
-
-/// The site that a reference names, over names in memory of its own.
-fn kept(alloc: Global, site: SiteRef<'_>) -> Result<Site, AllocError>
-    ensures { IfOk result (λ kept. kept ≡ site_ref_seen site.entry) }
-{
-    Ok(match site {
-        SiteRef::Model => Site::Model,
-        SiteRef::Class(class) => Site::Class(class.copy(alloc)?),
-        SiteRef::Field(class, field, alt) => {
-            Site::Field(class.copy(alloc)?, field.copy(alloc)?, alt)
-        }
-        SiteRef::Ctor(class) => Site::Ctor(class.copy(alloc)?),
-        SiteRef::CtorParam(class, slot) => Site::CtorParam(class.copy(alloc)?, slot),
-        SiteRef::SuperArg(class, slot) => Site::SuperArg(class.copy(alloc)?, slot),
-        SiteRef::Assign(class, slot) => Site::Assign(class.copy(alloc)?, slot),
-        SiteRef::Method(class, method, alt) => {
-            Site::Method(class.copy(alloc)?, method.copy(alloc)?, alt)
-        }
-        SiteRef::Param(class, method, alt, slot) => {
-            Site::Param(class.copy(alloc)?, method.copy(alloc)?, alt, slot)
-        }
-        SiteRef::Node(class, method, alt, slot) => {
-            Site::Node(class.copy(alloc)?, method.copy(alloc)?, alt, slot)
-        }
-    })
-}
 
 /// Adds the rules at a site, in order.
 pub fn add(
@@ -41,7 +18,20 @@ pub fn add(
     ensures { OnOk result (pairs.new.items ≡ pairs.old.items ++ pairs_at (site_ref_seen site.entry) rules.now) }
 {
     'each: for rule in rules {
-        pairs.push((kept(alloc, site)?, *rule))?;
+        pairs.push((site.to_site(alloc)?, *rule))?;
     }
     Ok(())
+}
+
+/// How many of these rules, which are in order, rank lower than this one.
+pub fn count_lower(rule: Rule, others: &[Rule]) -> usize
+    ensures within { result ≤ length others.now }
+    ensures placed { insert_ranked rank rule others.now ≡ take result others.now ++ rule ∷ drop result others.now }
+{
+    'each: for place in 0..others.len() {
+        if others[place].rank() >= rule.rank() {
+            return place;
+        }
+    }
+    others.len()
 }

@@ -94,13 +94,14 @@ pub record IsChecked (line : ProductLine) (budget : ℕ) (v : Verdict) (es : Lis
 
 -- ---- what is decided
 
-abbrev pub is_decided_entry : Entry → Bool
-is_decided_entry (entry.Broken site rule selection) = true
-is_decided_entry (entry.Undecided site rule log) = false
+-- the pair breaks under some valid selection; else the entry is undecided
+abbrev pub is_broken : Entry → Bool
+is_broken (entry.Broken site rule selection) = true
+is_broken (entry.Undecided site rule log) = false
 
 abbrev pub is_decided_verdict : Verdict → Bool
 is_decided_verdict (verdict.Unknown log) = false
 is_decided_verdict v = true
 
 abbrev pub are_decided : Verdict → List Entry → Bool
-are_decided v es = is_decided_verdict v && list_all is_decided_entry es
+are_decided v es = is_decided_verdict v && list_all is_broken es

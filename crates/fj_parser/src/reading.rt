@@ -12,6 +12,7 @@ ghost use Rattle.fj_parser.specs.MachineViews.{machine_seen, IsRoomy};
 ghost use Rattle.fj_parser.specs.Readers.{IsReached, SettlesEach};
 ghost use Rattle.fj_parser.specs.Reading.{IsPlaced, fault_kind, fault_place};
 ghost use Rattle.fj_parser.specs.Waiting.{waiting_places, waiting_roles};
+ghost use Rattle.cfj_model.specs.Roles.{nothing};
 ghost use Rattle.fj_tally.specs.Views.{tally_seen};
 ghost use Rattle.fj_symbols.specs.Views.{is_read, symbol_seen};
 
@@ -134,23 +135,23 @@ fn read_tokens<'a>(
     )
 }
 
-/// Reads a whole text by a machine that stands before the first token.
+/// Reads a whole text by a machine that stands before the first token, and a tally in which nothing is met.
 fn read_on<'a>(
     alloc: Global,
     part: Part<'a>,
     text: &'a str,
     machine: &mut Machine<'a>,
+    tally: &mut Tally<'a>,
 ) -> Result<(), ParseFault>
     requires settles { SettlesEach (reader_of part) }
     requires start { machine_seen machine.old ≡ start_for part.goal part.features.now part.class.now }
+    requires nothing { tally_seen tally.old ≡ nothing }
     ensures read { OnOk result (IsReadTo (met_of part.entry) (reader_of part.entry) text.entry.now (machine_seen machine.new)) }
     ensures fault { (at : ℕ) (kind : _) → result ≡ Err (ParseFault.At at kind) → IsStopped (met_of part.entry) (reader_of part.entry) text.entry.now at kind }
 {
     let mut lexer = Lexer::new(text);
-    // In a box, so that it drops in one step on each way out.
-    let mut tally = Box::new(alloc, Tally::new(alloc))?;
-    part.count_features(&mut tally)?;
-    read_tokens(alloc, part, &mut lexer, machine, &mut tally)
+    part.count_features(tally)?;
+    read_tokens(alloc, part, &mut lexer, machine, tally)
 }
 
 /// Reads a whole text: the machine behind its end, or the first fault.
@@ -164,6 +165,8 @@ pub fn read_text<'a>(
     ensures fault { (at : ℕ) (kind : _) → result ≡ Err (ParseFault.At at kind) → IsStopped (met_of part.entry) (reader_of part.entry) text.entry.now at kind }
 {
     let mut machine = part.boxed(alloc)?;
-    read_on(alloc, part, text, &mut machine)?;
+    // In a box too, so that it drops in one step on each way out.
+    let mut tally = Box::new(alloc, Tally::new(alloc))?;
+    read_on(alloc, part, text, &mut machine, &mut tally)?;
     Ok(machine)
 }

@@ -11,10 +11,10 @@ use Rattle.expression_reader.specs.declared.roles.Settling.{Settling}
 use Rattle.expression_reader.specs.declared.roles.Settling.TheVariants.{Stays, Bracket, Cast}
 use Rattle.expression_reader.specs.Machine as expression
 use Rattle.fj_parser.specs.Accepting.{BreaksAt, IsRefused, settled, waiting, misplaced, IsBrokenAt, AreCounted, IsTaken, IsToldAt, OwnFault, broken, stuck, OwnTaken}
-use Rattle.fj_parser.specs.Machine.{State, emitted, pending, role, settles, waits}
+use Rattle.fj_machine.specs.Machine.{State, emitted, pending, role, settles, waits}
 use Rattle.fj_parser.specs.GoalViews.{GoesFor, reader_of}
 use Rattle.fj_parser.specs.Goals.{step_for}
-use Rattle.fj_parser.specs.Readers.{misplaced_kind}
+use Rattle.fj_machine.specs.Readers.{misplaced_kind}
 use Rattle.fj_parser.specs.declared.part.Part.{Part}
 use Rattle.fj_parser.specs.Waiting.{waiting_left, waiting_places, waiting_roles, WaitedWithin}
 use Rattle.fj_parser.specs.declared.waiting.Refusal.{Refusal}

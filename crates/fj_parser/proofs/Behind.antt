@@ -11,10 +11,10 @@ use Rattle.expression_reader.specs.declared.mode.Mode.TheVariants as at
 use Rattle.expression_reader.specs.declared.roles.Settling.TheVariants.{Cast}
 use Rattle.expression_reader.specs.Machine as expression
 use Rattle.expression_reader.proofs.Law.{waits_on}
-use Rattle.fj_parser.specs.Machine.{State, after_expression, emitted, in_expression, pending, pending_in, role, role_in, settles, settles_in, step, step_in, waits, waits_in}
+use Rattle.fj_machine.specs.Machine.{State, after_expression, emitted, in_expression, pending, pending_in, role, role_in, settles, settles_in, step, step_in, waits, waits_in}
 use Rattle.fj_parser.specs.Waiting.{may_wait}
-use Rattle.fj_parser.specs.declared.mode.Mode.{Mode}
-use Rattle.fj_parser.specs.declared.mode.Mode.TheVariants.{InExpression}
+use Rattle.fj_machine.specs.declared.mode.Mode.{Mode}
+use Rattle.fj_machine.specs.declared.mode.Mode.TheVariants.{InExpression}
 use Rattle.fj_parser.proofs.Places.{no_more}
 
 -- ---- in an expression

@@ -11,15 +11,15 @@ use Rattle.cfj_model.specs.Roles.{Role, used_name, other_token}
 use Rattle.expression_reader.specs.Machine as expression
 use Rattle.expression_reader.specs.Reading as expression_reading
 use Rattle.expression_reader.proofs.Law as expression_law
-use Rattle.fj_parser.specs.declared.mode.Owner.{Owner}
-use Rattle.fj_parser.specs.declared.mode.Owner.TheVariants as owner
-use Rattle.fj_parser.specs.declared.mode.Node.{Node}
-use Rattle.fj_parser.specs.declared.mode.Node.TheVariants as node
-use Rattle.fj_parser.specs.declared.mode.Mode.{Mode}
-use Rattle.fj_parser.specs.declared.mode.Mode.TheVariants.{Begin, AfterFeatures, AfterFeature, AfterFeatureComma, Start, InConstraint, BetweenClasses, AfterAt, AfterMark, AfterMarkedType, AfterClass, AfterClassName, AfterExtends, AfterParent, InMembers, AfterType, AfterFieldName, InParams, AfterParamComma, AfterParamType, AfterParam, AfterParams, AfterAssigned, AfterEquals, AfterSecondName, InExpression, AfterBody, AtEnd}
+use Rattle.fj_machine.specs.declared.mode.Owner.{Owner}
+use Rattle.fj_machine.specs.declared.mode.Owner.TheVariants as owner
+use Rattle.fj_machine.specs.declared.mode.Node.{Node}
+use Rattle.fj_machine.specs.declared.mode.Node.TheVariants as node
+use Rattle.fj_machine.specs.declared.mode.Mode.{Mode}
+use Rattle.fj_machine.specs.declared.mode.Mode.TheVariants.{Begin, AfterFeatures, AfterFeature, AfterFeatureComma, Start, InConstraint, BetweenClasses, AfterAt, AfterMark, AfterMarkedType, AfterClass, AfterClassName, AfterExtends, AfterParent, InMembers, AfterType, AfterFieldName, InParams, AfterParamComma, AfterParamType, AfterParam, AfterParams, AfterAssigned, AfterEquals, AfterSecondName, InExpression, AfterBody, AtEnd}
 use Rattle.fj_parser.specs.Goals.{none_yet}
-use Rattle.fj_parser.specs.Machine.{unnamed, State, with_field, method_of, with_method, pending, run}
-use Rattle.fj_parser.specs.Readers.{Run, with_roles, run_of}
+use Rattle.fj_machine.specs.Machine.{unnamed, State, with_field, method_of, with_method, pending, run}
+use Rattle.fj_machine.specs.Readers.{Run, with_roles, run_of}
 use Rattle.fj_parser.proofs.ClassRuns.{class_reader, Stage, in_first, behind_first, behind_end, wide_run}
 use Rattle.fj_parser.proofs.Closing.{Reaches, let_through, same_rest, methods_end, assigns_end, second_end, sends_end, method_end, body_end, params_end, ctor_end, parent_end, marked_end, closing}
 use Rattle.fj_parser.proofs.Complete.{same_name}

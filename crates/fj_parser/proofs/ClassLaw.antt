@@ -11,11 +11,11 @@ use Rattle.cfj_model.specs.TreeRoles.{roles_class}
 use Rattle.fj_symbols.specs.Views.{are_read}
 use Rattle.fj_parser.specs.Laws.{Closes, GoesByName, Reads}
 use Rattle.fj_parser.specs.declared.goal.Goal.TheVariants as goal
-use Rattle.fj_parser.specs.declared.mode.Mode.{Mode}
-use Rattle.fj_parser.specs.declared.mode.Mode.TheVariants.{BetweenClasses, AtEnd}
+use Rattle.fj_machine.specs.declared.mode.Mode.{Mode}
+use Rattle.fj_machine.specs.declared.mode.Mode.TheVariants.{BetweenClasses, AtEnd}
 use Rattle.fj_parser.specs.Goals.{class_or_end, step_for, takes_name_for, reader_for}
-use Rattle.fj_parser.specs.Machine.{unnamed, State, behind, class_of, start, pending, emitted}
-use Rattle.fj_parser.specs.Readers.{Run, with_roles, run_of}
+use Rattle.fj_machine.specs.Machine.{unnamed, State, behind, class_of, start, pending, emitted}
+use Rattle.fj_machine.specs.Readers.{Run, with_roles, run_of}
 use Rattle.fj_parser.proofs.ClassClosing.{ClassEnding, class_ending}
 use Rattle.fj_parser.proofs.ClassRuns.{class_reader, narrow_in, narrow_run, stage_reached, behind_class, class_runs}
 use Rattle.fj_parser.proofs.Closing.{Reaches}

@@ -8,12 +8,12 @@ use Rattle.cfj_model.specs.Roles.{Role}
 use Rattle.cfj_words.specs.Tokens.{Token, ClassWord, At, End}
 use Rattle.cfj_model.specs.TreeRoles.{roles_class}
 use Rattle.fj_parser.specs.declared.goal.Goal.TheVariants as goal
-use Rattle.fj_parser.specs.declared.mode.Mode.{Mode}
-use Rattle.fj_parser.specs.declared.mode.Mode.TheVariants.{BetweenClasses, AfterAt, AfterClass, AtEnd}
-use Rattle.fj_parser.specs.declared.mode.Node.TheVariants as node
+use Rattle.fj_machine.specs.declared.mode.Mode.{Mode}
+use Rattle.fj_machine.specs.declared.mode.Mode.TheVariants.{BetweenClasses, AfterAt, AfterClass, AtEnd}
+use Rattle.fj_machine.specs.declared.mode.Node.TheVariants as node
 use Rattle.fj_parser.specs.Goals.{none_yet, class_or_end, step_for, reader_for}
-use Rattle.fj_parser.specs.Machine.{unnamed, State, behind, step_in, run}
-use Rattle.fj_parser.specs.Readers.{Reader, with_roles, run_of}
+use Rattle.fj_machine.specs.Machine.{unnamed, State, behind, step_in, run}
+use Rattle.fj_machine.specs.Readers.{Reader, with_roles, run_of}
 use Rattle.fj_parser.proofs.Complete.{class_run}
 use Rattle.fj_parser.proofs.Parts.{Follows, here_run, same_run, region, phase, Moves, kept, grown, moves, phase_grows}
 use Rattle.fj_parser.proofs.Readers.{on_from, run_append}

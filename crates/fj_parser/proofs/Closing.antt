@@ -11,14 +11,14 @@ use Rattle.formula_reader.proofs.Leads.{run_leads}
 use Rattle.expression_reader.specs.Machine as expression
 use Rattle.expression_reader.specs.Reading as expression_reading
 use Rattle.expression_reader.proofs.Law as expression_law
-use Rattle.fj_parser.specs.declared.mode.Owner.{Owner}
-use Rattle.fj_parser.specs.declared.mode.Owner.TheVariants as owner
-use Rattle.fj_parser.specs.declared.mode.Node.{Node}
-use Rattle.fj_parser.specs.declared.mode.Node.TheVariants as node
-use Rattle.fj_parser.specs.declared.mode.Mode.{Mode}
-use Rattle.fj_parser.specs.declared.mode.Mode.TheVariants.{Begin, AfterFeatures, AfterFeature, AfterFeatureComma, Start, InConstraint, BetweenClasses, AfterAt, AfterMark, AfterMarkedType, AfterClass, AfterClassName, AfterExtends, AfterParent, InMembers, AfterType, AfterFieldName, InParams, AfterParamComma, AfterParamType, AfterParam, AfterParams, InBody, AfterSuper, InSends, AfterSendComma, AfterSend, AfterSends, InAssigns, AfterThis, AfterThisDot, AfterAssigned, AfterEquals, AfterSecondName, InMethods, AfterResult, AfterMethodName, InMethodBody, InExpression, AfterBody, AtEnd}
-use Rattle.fj_parser.specs.Machine.{unnamed, State, with_field, with_method, pending, run}
-use Rattle.fj_parser.specs.Readers.{Run, with_roles, then_run, run_of}
+use Rattle.fj_machine.specs.declared.mode.Owner.{Owner}
+use Rattle.fj_machine.specs.declared.mode.Owner.TheVariants as owner
+use Rattle.fj_machine.specs.declared.mode.Node.{Node}
+use Rattle.fj_machine.specs.declared.mode.Node.TheVariants as node
+use Rattle.fj_machine.specs.declared.mode.Mode.{Mode}
+use Rattle.fj_machine.specs.declared.mode.Mode.TheVariants.{Begin, AfterFeatures, AfterFeature, AfterFeatureComma, Start, InConstraint, BetweenClasses, AfterAt, AfterMark, AfterMarkedType, AfterClass, AfterClassName, AfterExtends, AfterParent, InMembers, AfterType, AfterFieldName, InParams, AfterParamComma, AfterParamType, AfterParam, AfterParams, InBody, AfterSuper, InSends, AfterSendComma, AfterSend, AfterSends, InAssigns, AfterThis, AfterThisDot, AfterAssigned, AfterEquals, AfterSecondName, InMethods, AfterResult, AfterMethodName, InMethodBody, InExpression, AfterBody, AtEnd}
+use Rattle.fj_machine.specs.Machine.{unnamed, State, with_field, with_method, pending, run}
+use Rattle.fj_machine.specs.Readers.{Run, with_roles, then_run, run_of}
 use Rattle.fj_parser.proofs.Complete.{same_name, formula_runs}
 use Rattle.fj_parser.proofs.Expressions.{in_body, expression_runs, rest_reads}
 use Rattle.fj_parser.proofs.ListsSound.{never}

@@ -18,14 +18,14 @@ use Rattle.formula_reader.specs.declared.mode.Mode.TheVariants.{Want, After, Don
 use Rattle.formula_reader.proofs.Leads.{Leads, last, more, formula_leads}
 use Rattle.formula_reader.proofs.Texts.{spell_iff_append, roles_iff_append}
 use Rattle.expression_reader.specs.Machine as expression
-use Rattle.fj_parser.specs.declared.mode.Owner.{Owner}
-use Rattle.fj_parser.specs.declared.mode.Owner.TheVariants as owner
-use Rattle.fj_parser.specs.declared.mode.Node.{Node}
-use Rattle.fj_parser.specs.declared.mode.Node.TheVariants as node
-use Rattle.fj_parser.specs.declared.mode.Mode.{Mode}
-use Rattle.fj_parser.specs.declared.mode.Mode.TheVariants.{Begin, AfterFeatures, AfterFeature, Start, InConstraint, BetweenClasses, AfterAt, AfterMark, AfterClass, InMembers, InParams, AfterParamComma, AfterParam, AfterParams, InSends, AfterSendComma, AfterSend, AfterSends, InAssigns, AfterThis, AfterSecondName, InMethods, AfterResult, AtEnd}
-use Rattle.fj_parser.specs.Machine.{unnamed, State, behind, before_classes, start, to, after_formula, in_formula, opens_constraint, step_in, run}
-use Rattle.fj_parser.specs.Readers.{Run, then_run, run_of}
+use Rattle.fj_machine.specs.declared.mode.Owner.{Owner}
+use Rattle.fj_machine.specs.declared.mode.Owner.TheVariants as owner
+use Rattle.fj_machine.specs.declared.mode.Node.{Node}
+use Rattle.fj_machine.specs.declared.mode.Node.TheVariants as node
+use Rattle.fj_machine.specs.declared.mode.Mode.{Mode}
+use Rattle.fj_machine.specs.declared.mode.Mode.TheVariants.{Begin, AfterFeatures, AfterFeature, Start, InConstraint, BetweenClasses, AfterAt, AfterMark, AfterClass, InMembers, InParams, AfterParamComma, AfterParam, AfterParams, InSends, AfterSendComma, AfterSend, AfterSends, InAssigns, AfterThis, AfterSecondName, InMethods, AfterResult, AtEnd}
+use Rattle.fj_machine.specs.Machine.{unnamed, State, behind, before_classes, start, to, after_formula, in_formula, opens_constraint, step_in, run}
+use Rattle.fj_machine.specs.Readers.{Run, then_run, run_of}
 use Rattle.fj_parser.proofs.Expressions.{expression_tree_runs}
 
 -- a run with more roles before its own

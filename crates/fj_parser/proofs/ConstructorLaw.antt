@@ -13,11 +13,11 @@ use Rattle.fj_symbols.specs.Views.{are_read}
 use Rattle.fj_parser.specs.Languages.{CtorTree, in_class, constructors}
 use Rattle.fj_parser.specs.Laws.{Closes, GoesByName, IsPlainLanguage, Reads}
 use Rattle.fj_parser.specs.declared.goal.Goal.TheVariants as goal
-use Rattle.fj_parser.specs.declared.mode.Mode.{Mode}
-use Rattle.fj_parser.specs.declared.mode.Mode.TheVariants.{InMembers, AfterType, InMethods, InExpression, AtEnd}
+use Rattle.fj_machine.specs.declared.mode.Mode.{Mode}
+use Rattle.fj_machine.specs.declared.mode.Mode.TheVariants.{InMembers, AfterType, InMethods, InExpression, AtEnd}
 use Rattle.fj_parser.specs.Goals.{step_for, takes_name_for, reader_for}
-use Rattle.fj_parser.specs.Machine.{State, pending, pending_in, emitted, reader, run}
-use Rattle.fj_parser.specs.Readers.{Run, with_roles, then_run, run_of}
+use Rattle.fj_machine.specs.Machine.{State, pending, pending_in, emitted, reader, run}
+use Rattle.fj_machine.specs.Readers.{Run, with_roles, then_run, run_of}
 use Rattle.fj_parser.proofs.Closing.{Reaches}
 use Rattle.fj_parser.proofs.Complete.{same_name}
 use Rattle.fj_parser.proofs.ConstructorRuns.{ctor_reader, before_ctor, behind_one, in_ctor, ctor_runs, no_case, is_end, narrow_in, narrow_run}

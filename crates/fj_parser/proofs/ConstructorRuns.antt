@@ -8,14 +8,14 @@ use Rattle.cfj_model.specs.Roles.{Role, used_name, other_token}
 use Rattle.cfj_words.specs.Tokens.{Token, Id, SuperWord, OpenBrace, CloseBrace, OpenParen, CloseParen, Semicolon, Comma, At, End}
 use Rattle.cfj_model.specs.TreeRoles.{roles_ctor, roles_param}
 use Rattle.fj_parser.specs.declared.goal.Goal.TheVariants as goal
-use Rattle.fj_parser.specs.declared.mode.Mode.{Mode}
-use Rattle.fj_parser.specs.declared.mode.Mode.TheVariants.{InMembers, AfterAt, AfterType, InParams, InMethods, AfterResult, AtEnd}
-use Rattle.fj_parser.specs.declared.mode.Node.TheVariants as node
-use Rattle.fj_parser.specs.declared.mode.Owner.TheVariants as owner
+use Rattle.fj_machine.specs.declared.mode.Mode.{Mode}
+use Rattle.fj_machine.specs.declared.mode.Mode.TheVariants.{InMembers, AfterAt, AfterType, InParams, InMethods, AfterResult, AtEnd}
+use Rattle.fj_machine.specs.declared.mode.Node.TheVariants as node
+use Rattle.fj_machine.specs.declared.mode.Owner.TheVariants as owner
 use Rattle.fj_parser.specs.Goals.{step_for, reader_for}
 use Rattle.fj_parser.specs.Languages.{CtorTree, in_class}
-use Rattle.fj_parser.specs.Machine.{unnamed, State, behind, with_class, step_in, run}
-use Rattle.fj_parser.specs.Readers.{Run, Reader, with_roles, then_run, run_of}
+use Rattle.fj_machine.specs.Machine.{unnamed, State, behind, with_class, step_in, run}
+use Rattle.fj_machine.specs.Readers.{Run, Reader, with_roles, then_run, run_of}
 use Rattle.fj_parser.proofs.Complete.{same_name, params_run, body_run, behind_ctor}
 use Rattle.fj_parser.proofs.Parts.{Follows, same_run, phase, phase_grows}
 use Rattle.fj_parser.proofs.Readers.{on_from, run_append}

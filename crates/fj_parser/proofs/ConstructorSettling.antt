@@ -7,11 +7,11 @@ use Rattle.cfj_model.specs.Roles.{Role, other_token}
 use Rattle.cfj_words.specs.Tokens.{Token, Id, CloseBrace, End}
 use Rattle.fj_parser.specs.Laws.{Settles}
 use Rattle.fj_parser.specs.declared.goal.Goal.TheVariants as goal
-use Rattle.fj_parser.specs.declared.mode.Mode.{Mode}
-use Rattle.fj_parser.specs.declared.mode.Mode.TheVariants.{InMembers, AfterType, InMethods, AtEnd}
+use Rattle.fj_machine.specs.declared.mode.Mode.{Mode}
+use Rattle.fj_machine.specs.declared.mode.Mode.TheVariants.{InMembers, AfterType, InMethods, AtEnd}
 use Rattle.fj_parser.specs.Goals.{ends, step_for}
-use Rattle.fj_parser.specs.Machine.{State, with_class, pending, emitted, step_in, run}
-use Rattle.fj_parser.specs.Readers.{Run, then_run, run_of}
+use Rattle.fj_machine.specs.Machine.{State, with_class, pending, emitted, step_in, run}
+use Rattle.fj_machine.specs.Readers.{Run, then_run, run_of}
 use Rattle.fj_parser.proofs.ConstructorRuns.{ctor_reader, no_case, passes}
 use Rattle.fj_parser.proofs.ConstructorStages.{end_only, end_plain}
 use Rattle.fj_parser.proofs.Law.{run_settles}

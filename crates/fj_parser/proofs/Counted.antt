@@ -22,12 +22,12 @@ use Rattle.expression_reader.specs.Reading.{owed, is_role_of_body}
 use Rattle.expression_reader.proofs.Counting.{roles_of_body, slots_keep_up}
 use Rattle.fj_parser.specs.Accepting.{IsAccepted}
 use Rattle.fj_parser.specs.Counting.{Place, before_class, before_method, before_body, in_body, place_of, InHand, in_hand, IsCounted, Counted}
-use Rattle.fj_parser.specs.Machine.{unnamed, State, after_formula, in_formula, after_expression, in_expression, opens_constraint, step, step_in, emitted, start, reader}
-use Rattle.fj_parser.specs.MachineViews.{IsRoomy}
-use Rattle.fj_parser.specs.declared.mode.Owner.TheVariants as owner
-use Rattle.fj_parser.specs.declared.mode.Node.TheVariants as node
-use Rattle.fj_parser.specs.declared.mode.Mode.{Mode}
-use Rattle.fj_parser.specs.declared.mode.Mode.TheVariants.{Begin, AfterFeatures, AfterFeature, AfterFeatureComma, Start, InConstraint, BetweenClasses, AfterAt, AfterMark, AfterMarkedType, AfterClass, AfterClassName, AfterExtends, AfterParent, InMembers, AfterType, AfterFieldName, InParams, AfterParamComma, AfterParamType, AfterParam, AfterParams, InBody, AfterSuper, InSends, AfterSendComma, AfterSend, AfterSends, InAssigns, AfterThis, AfterThisDot, AfterAssigned, AfterEquals, AfterSecondName, InMethods, AfterResult, AfterMethodName, InMethodBody, InExpression, AfterBody}
+use Rattle.fj_machine.specs.Machine.{unnamed, State, after_formula, in_formula, after_expression, in_expression, opens_constraint, step, step_in, emitted, start, reader}
+use Rattle.fj_machine.specs.MachineViews.{IsRoomy}
+use Rattle.fj_machine.specs.declared.mode.Owner.TheVariants as owner
+use Rattle.fj_machine.specs.declared.mode.Node.TheVariants as node
+use Rattle.fj_machine.specs.declared.mode.Mode.{Mode}
+use Rattle.fj_machine.specs.declared.mode.Mode.TheVariants.{Begin, AfterFeatures, AfterFeature, AfterFeatureComma, Start, InConstraint, BetweenClasses, AfterAt, AfterMark, AfterMarkedType, AfterClass, AfterClassName, AfterExtends, AfterParent, InMembers, AfterType, AfterFieldName, InParams, AfterParamComma, AfterParamType, AfterParam, AfterParams, InBody, AfterSuper, InSends, AfterSendComma, AfterSend, AfterSends, InAssigns, AfterThis, AfterThisDot, AfterAssigned, AfterEquals, AfterSecondName, InMethods, AfterResult, AfterMethodName, InMethodBody, InExpression, AfterBody}
 use Rattle.fj_parser.proofs.KeptNames.{NoneHolds, none_holds, NameFits, name_fits, CountFits, count_fits}
 
 -- ---- the counts that a role changes

@@ -10,7 +10,7 @@ use Rattle.fj_lexer.specs.declared.token.LexFault.{LexFault}
 use Rattle.fj_parser.specs.Accepting.{IsTold, of_waiting, of_lexer}
 use Rattle.fj_parser.specs.Ending.{IsReadTo, IsStopped, at_token, at_no_lexeme}
 use Rattle.fj_parser.specs.Laws.{Reads}
-use Rattle.fj_parser.specs.Readers.{Reader}
+use Rattle.fj_machine.specs.Readers.{Reader}
 use Rattle.fj_parser.specs.Reading.{IsPlaced, fault_kind, fault_place}
 use Rattle.fj_parser.proofs.Places.{told_first, waiting_first}
 use Rattle.fj_parser.proofs.Progress.{ends_at_lexeme, ends_whole}

@@ -6,7 +6,7 @@ use Rattle.cfj_model.specs.declared.fault.ParseFault.TheVariants.{At, NoMemory}
 use Rattle.cfj_model.specs.Faults.{Language, IsTextOf, IsFirstFault}
 use Rattle.fj_parser.specs.Answers.{IsReadAs, IsRefusedAs}
 use Rattle.fj_parser.specs.Laws.{Reads}
-use Rattle.fj_parser.specs.Readers.{Reader}
+use Rattle.fj_machine.specs.Readers.{Reader}
 use Rattle.fj_parser.proofs.FirstFault.{one_value, no_fault, one_fault}
 
 module _ {V : Type 0} (l : Language V) (m : Reader) (laws : Reads l m) where

@@ -24,11 +24,11 @@ use Rattle.expression_reader.proofs.Sound as expression_sound
 use Rattle.fj_parser.specs.Goals.{start_for, step_for, takes_name_for, reader_for}
 use Rattle.fj_parser.specs.Languages.{UnmarkedTree, expressions}
 use Rattle.fj_parser.specs.Laws.{Settles, alike, Closes, GoesByName, Reads}
-use Rattle.fj_parser.specs.Machine.{unnamed, State, method_of, with_method, after_expression, in_expression, step_in, emitted, pending, pending_in}
-use Rattle.fj_parser.specs.Readers.{Reader, Run, then_run, run_of}
+use Rattle.fj_machine.specs.Machine.{unnamed, State, method_of, with_method, after_expression, in_expression, step_in, emitted, pending, pending_in}
+use Rattle.fj_machine.specs.Readers.{Reader, Run, then_run, run_of}
 use Rattle.fj_parser.specs.declared.goal.Goal.TheVariants as goal
-use Rattle.fj_parser.specs.declared.mode.Mode.{Mode}
-use Rattle.fj_parser.specs.declared.mode.Mode.TheVariants.{InExpression, AfterBody}
+use Rattle.fj_machine.specs.declared.mode.Mode.{Mode}
+use Rattle.fj_machine.specs.declared.mode.Mode.TheVariants.{InExpression, AfterBody}
 use Rattle.fj_parser.proofs.Expressions.{in_body, unread_none}
 use Rattle.fj_parser.proofs.Law.{begun_on}
 use Rattle.fj_parser.proofs.MethodsSound.{whole_done}

@@ -11,9 +11,9 @@ use Rattle.expression_reader.specs.declared.mode.Mode.TheVariants as expression_
 use Rattle.expression_reader.proofs.Complete.{text_runs}
 use Rattle.expression_reader.proofs.Composing.{spell_before, roles_before}
 use Rattle.expression_reader.proofs.Law.{on_from, run_append, ends_once}
-use Rattle.fj_parser.specs.declared.mode.Mode.TheVariants.{InExpression}
-use Rattle.fj_parser.specs.Machine.{State, with_method, after_expression, in_expression, run}
-use Rattle.fj_parser.specs.Readers.{with_roles, then_run, run_of}
+use Rattle.fj_machine.specs.declared.mode.Mode.TheVariants.{InExpression}
+use Rattle.fj_machine.specs.Machine.{State, with_method, after_expression, in_expression, run}
+use Rattle.fj_machine.specs.Readers.{with_roles, then_run, run_of}
 
 -- an expression that isn't whole has no value
 pub unread_none : (e : expression.State) → expression.is_done e ≡ false → expression.expression e ≡ None

@@ -8,15 +8,15 @@ use Rattle.cfj_model.specs.Roles.{Role, used_name}
 use Rattle.cfj_words.specs.Tokens.{Token, Id, OpenParen, Semicolon, At, End}
 use Rattle.cfj_model.specs.TreeRoles.{roles_field}
 use Rattle.fj_parser.specs.declared.goal.Goal.TheVariants as goal
-use Rattle.fj_parser.specs.declared.mode.Owner.TheVariants as owner
-use Rattle.fj_parser.specs.declared.mode.Node.TheVariants as node
-use Rattle.fj_parser.specs.declared.mode.Mode.{Mode}
-use Rattle.fj_parser.specs.declared.mode.Mode.TheVariants.{AfterMark, InMembers, AfterType, AtEnd}
+use Rattle.fj_machine.specs.declared.mode.Owner.TheVariants as owner
+use Rattle.fj_machine.specs.declared.mode.Node.TheVariants as node
+use Rattle.fj_machine.specs.declared.mode.Mode.{Mode}
+use Rattle.fj_machine.specs.declared.mode.Mode.TheVariants.{AfterMark, InMembers, AfterType, AtEnd}
 use Rattle.fj_parser.specs.Goals.{none_yet, start_for, field_or_end, step_for, takes_name_for, reader_for}
 use Rattle.fj_parser.specs.Languages.{single_fields}
 use Rattle.fj_parser.specs.Laws.{Closes, GoesByName, IsPlainLanguage, Reads}
-use Rattle.fj_parser.specs.Machine.{unnamed, State, behind, step_in, emitted, pending, run}
-use Rattle.fj_parser.specs.Readers.{Run, run_of}
+use Rattle.fj_machine.specs.Machine.{unnamed, State, behind, step_in, emitted, pending, run}
+use Rattle.fj_machine.specs.Readers.{Run, run_of}
 use Rattle.fj_parser.proofs.Closing.{params_end, ctor_end, ctor_closes}
 use Rattle.fj_parser.proofs.Complete.{with_roles, field_run}
 use Rattle.fj_parser.proofs.Law.{reach_stops, end_at_open, end_stops}

@@ -11,7 +11,7 @@ use Rattle.cfj_words.specs.Tokens.{Token, End, token_of, token_seen, Takes, plac
 use Rattle.cfj_model.specs.Roles.{Role, other_token, Tally, counted, tallied, broken_by, AreWithin}
 use Rattle.cfj_model.specs.Faults.{Language, IsTextOf, Begins, CanGoOn, IsMisplaced, reserved, other, no_name, Front, lexical_fault, IsLongest, before_no_lexeme, before_misplaced, before_the_end, StandsBehind, IsFirstFault, no_text, breaking, no_lexeme, no_place}
 use Rattle.fj_parser.specs.Laws.{Reads}
-use Rattle.fj_parser.specs.Readers.{Reader, run_of}
+use Rattle.fj_machine.specs.Readers.{Reader, run_of}
 use Rattle.fj_parser.proofs.Readers.{run_more, reads_begin, ReadTo, begins_reads, cannot_go_on, can_go_on, begun, same_value}
 use Rattle.fj_parser.proofs.Texts.{takes_same, takes_split, takes_more, found_shorter, Order, same, shorter, longer, takes_order}
 

@@ -9,11 +9,11 @@ use Rattle.expression_reader.specs.declared.mode.Mode.TheVariants as at
 use Rattle.expression_reader.specs.declared.roles.Settling.TheVariants.{Cast}
 use Rattle.expression_reader.specs.Machine as expression
 use Rattle.fj_parser.specs.Goals.{step_for}
-use Rattle.fj_parser.specs.Machine.{State, pending, pending_in, role, role_in, settles, settles_in, step_in, waits, waits_in}
+use Rattle.fj_machine.specs.Machine.{State, pending, pending_in, role, role_in, settles, settles_in, step_in, waits, waits_in}
 use Rattle.fj_parser.specs.declared.goal.Goal.{Goal}
 use Rattle.fj_parser.specs.declared.goal.Goal.TheVariants as goal
-use Rattle.fj_parser.specs.declared.mode.Mode.{Mode}
-use Rattle.fj_parser.specs.declared.mode.Mode.TheVariants.{InExpression}
+use Rattle.fj_machine.specs.declared.mode.Mode.{Mode}
+use Rattle.fj_machine.specs.declared.mode.Mode.TheVariants.{InExpression}
 use Rattle.fj_parser.proofs.Behind.{behind_expression, cast_goes, one_settled, waits_goes, IsOnce, OnceIn}
 
 -- ---- the tokens that wait, and those behind a cast's bracket, do what they do in a project

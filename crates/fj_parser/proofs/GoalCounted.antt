@@ -16,11 +16,11 @@ use Rattle.fj_parser.specs.Accepting.{IsAccepted}
 use Rattle.fj_parser.specs.Counting.{Place, before_class, before_method, before_body, in_body, place_of, in_hand, IsEmptyAt, IsCounted, Counted}
 use Rattle.fj_parser.specs.Goals.{start_for, begins_member, ends, class_or_end, field_or_end, method_or_end, member_or_end, step_for, reader_for}
 use Rattle.fj_parser.specs.Languages.{with_features}
-use Rattle.fj_parser.specs.Machine.{State, emitted, step_in, token_role}
+use Rattle.fj_machine.specs.Machine.{State, emitted, step_in, token_role}
 use Rattle.fj_parser.specs.declared.goal.Goal.{Goal}
 use Rattle.fj_parser.specs.declared.goal.Goal.TheVariants as goal
-use Rattle.fj_parser.specs.declared.mode.Mode.{Mode}
-use Rattle.fj_parser.specs.declared.mode.Mode.TheVariants.{Begin, Start, BetweenClasses, InMembers, AfterType, InMethods, AfterMethodName, InExpression, AfterBody}
+use Rattle.fj_machine.specs.declared.mode.Mode.{Mode}
+use Rattle.fj_machine.specs.declared.mode.Mode.TheVariants.{Begin, Start, BetweenClasses, InMembers, AfterType, InMethods, AfterMethodName, InExpression, AfterBody}
 use Rattle.fj_parser.proofs.Counted.{body_begun, counted_in}
 
 -- the state that a step reaches, if there is one, has no more in hand than was counted with this token

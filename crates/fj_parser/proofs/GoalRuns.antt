@@ -9,11 +9,11 @@ use Rattle.expression_reader.specs.Machine as expression
 use Rattle.expression_reader.proofs.Finishing.{waited_first}
 use Rattle.fj_parser.specs.Goals.{step_for, reader_for}
 use Rattle.fj_parser.specs.Laws.{Settles, alike}
-use Rattle.fj_parser.specs.Machine.{State, after_expression, in_expression, step_in, pending, pending_in}
-use Rattle.fj_parser.specs.Readers.{Run, then_run, run_of}
+use Rattle.fj_machine.specs.Machine.{State, after_expression, in_expression, step_in, pending, pending_in}
+use Rattle.fj_machine.specs.Readers.{Run, then_run, run_of}
 use Rattle.fj_parser.specs.declared.goal.Goal.{Goal}
-use Rattle.fj_parser.specs.declared.mode.Mode.{Mode}
-use Rattle.fj_parser.specs.declared.mode.Mode.TheVariants.{InExpression}
+use Rattle.fj_machine.specs.declared.mode.Mode.{Mode}
+use Rattle.fj_machine.specs.declared.mode.Mode.TheVariants.{InExpression}
 use Rattle.fj_parser.proofs.Expressions.{in_body}
 use Rattle.fj_parser.proofs.Law.{begun_on}
 use Rattle.fj_parser.proofs.MethodsSound.{whole_done}

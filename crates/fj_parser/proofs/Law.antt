@@ -14,12 +14,12 @@ use Rattle.expression_reader.specs.declared.mode.Mode as expression_mode
 use Rattle.expression_reader.specs.declared.mode.Mode.TheVariants as expression_variant
 use Rattle.expression_reader.proofs.Finishing.{Begun, as_waited, as_a_cast, waited_first}
 use Rattle.fj_parser.specs.Laws.{Settles, alike, as_cast, Closes, Reads}
-use Rattle.fj_parser.specs.declared.mode.Owner.TheVariants as owner
-use Rattle.fj_parser.specs.declared.mode.Node.TheVariants as node
-use Rattle.fj_parser.specs.declared.mode.Mode.{Mode}
-use Rattle.fj_parser.specs.declared.mode.Mode.TheVariants.{Begin, Start, InConstraint, BetweenClasses, AfterMark, AfterParams, InExpression, AtEnd}
-use Rattle.fj_parser.specs.Machine.{State, start, with_method, in_formula, in_expression, step_in, step, pending, pending_in, reader, run, stands_for}
-use Rattle.fj_parser.specs.Readers.{Run, with_roles}
+use Rattle.fj_machine.specs.declared.mode.Owner.TheVariants as owner
+use Rattle.fj_machine.specs.declared.mode.Node.TheVariants as node
+use Rattle.fj_machine.specs.declared.mode.Mode.{Mode}
+use Rattle.fj_machine.specs.declared.mode.Mode.TheVariants.{Begin, Start, InConstraint, BetweenClasses, AfterMark, AfterParams, InExpression, AtEnd}
+use Rattle.fj_machine.specs.Machine.{State, start, with_method, in_formula, in_expression, step_in, step, pending, pending_in, reader, run, stands_for}
+use Rattle.fj_machine.specs.Readers.{Run, with_roles}
 use Rattle.fj_parser.proofs.Closing.{Reaches, Ending, ending}
 use Rattle.fj_parser.proofs.Complete.{mode_behind, classes_run, ended, text_runs}
 use Rattle.fj_parser.proofs.Expressions.{in_body, expression_runs}

@@ -8,12 +8,12 @@ use Rattle.cfj_words.specs.Tokens.{Token, Id, ThisWord, CloseBrace, CloseParen, 
 use Rattle.cfj_model.specs.Grammar.{Declared, Named, spell_param, spell_sent, spell_assign, value_param, value_sent, numbered}
 use Rattle.cfj_model.specs.Marks.{in_order, each_behind, separated, spell_mark, color_of, colored}
 use Rattle.cfj_model.specs.Roles.{Role, used_name}
-use Rattle.fj_parser.specs.declared.mode.Owner.{Owner}
-use Rattle.fj_parser.specs.declared.mode.Node.TheVariants as node
-use Rattle.fj_parser.specs.declared.mode.Mode.{Mode}
-use Rattle.fj_parser.specs.declared.mode.Mode.TheVariants.{Begin, Start, BetweenClasses, AfterMark, AfterThis, AfterSecondName, AtEnd}
-use Rattle.fj_parser.specs.Machine.{unnamed, State, with_ctor, run}
-use Rattle.fj_parser.specs.Readers.{Run, then_run, run_of}
+use Rattle.fj_machine.specs.declared.mode.Owner.{Owner}
+use Rattle.fj_machine.specs.declared.mode.Node.TheVariants as node
+use Rattle.fj_machine.specs.declared.mode.Mode.{Mode}
+use Rattle.fj_machine.specs.declared.mode.Mode.TheVariants.{Begin, Start, BetweenClasses, AfterMark, AfterThis, AfterSecondName, AtEnd}
+use Rattle.fj_machine.specs.Machine.{unnamed, State, with_ctor, run}
+use Rattle.fj_machine.specs.Readers.{Run, then_run, run_of}
 use Rattle.fj_parser.proofs.Complete.{numbered_on, in_params, after_param_comma, after_param, after_params, in_sends, after_send_comma, after_send, after_sends, in_assigns, with_a_param, with_a_sent, with_an_assign}
 
 -- a text may stop in this mode

@@ -9,13 +9,13 @@ use Rattle.cfj_model.specs.Roles.{method_name, used_name}
 use Rattle.cfj_words.specs.Tokens.{Token, Id, ReturnWord, OpenBrace, CloseBrace, OpenParen, CloseParen, Semicolon, Comma, At, End}
 use Rattle.expression_reader.specs.Machine as expression
 use Rattle.fj_parser.specs.declared.goal.Goal.TheVariants as goal
-use Rattle.fj_parser.specs.declared.mode.Owner.TheVariants as owner
-use Rattle.fj_parser.specs.declared.mode.Node.TheVariants as node
-use Rattle.fj_parser.specs.declared.mode.Mode.{Mode}
-use Rattle.fj_parser.specs.declared.mode.Mode.TheVariants.{AfterAt, AfterMark, InParams, AfterParamComma, AfterParamType, AfterParam, AfterParams, InMethods, AfterResult, AfterMethodName, InMethodBody, InExpression, AfterBody, AtEnd}
-use Rattle.fj_parser.specs.Goals.{none_yet, member_or_end, with_single_field, step_for}
-use Rattle.fj_parser.specs.Machine.{unnamed, State, after_expression, in_expression, emitted}
-use Rattle.fj_parser.specs.Readers.{Run, then_run, run_of}
+use Rattle.fj_machine.specs.declared.mode.Owner.TheVariants as owner
+use Rattle.fj_machine.specs.declared.mode.Node.TheVariants as node
+use Rattle.fj_machine.specs.declared.mode.Mode.{Mode}
+use Rattle.fj_machine.specs.declared.mode.Mode.TheVariants.{AfterAt, AfterMark, InParams, AfterParamComma, AfterParamType, AfterParam, AfterParams, InMethods, AfterResult, AfterMethodName, InMethodBody, InExpression, AfterBody, AtEnd}
+use Rattle.fj_parser.specs.Goals.{none_yet, member_or_end, step_for}
+use Rattle.fj_machine.specs.Machine.{unnamed, State, after_expression, in_expression, emitted, with_single_field}
+use Rattle.fj_machine.specs.Readers.{Run, then_run, run_of}
 use Rattle.fj_parser.proofs.Complete.{with_roles}
 use Rattle.fj_parser.proofs.ListsSound.{never}
 use Rattle.fj_parser.proofs.SingleLaws.{first_state}

@@ -8,11 +8,11 @@ use Rattle.cfj_words.specs.Tokens.{Token, Id, SuperWord, OpenBrace, CloseBrace, 
 use Rattle.cfj_model.specs.Grammar.{Declared, Named, MethodTree, ClassTree, spell_field, spell_param, spell_sent, spell_assign, spell_ctor, value_field, value_param, value_sent, numbered}
 use Rattle.cfj_model.specs.Marks.{in_order, separated, spell_mark, color_of, colored}
 use Rattle.cfj_model.specs.Roles.{other_token}
-use Rattle.fj_parser.specs.declared.mode.Owner.TheVariants as owner
-use Rattle.fj_parser.specs.declared.mode.Node.TheVariants as node
-use Rattle.fj_parser.specs.declared.mode.Mode.TheVariants.{AfterMark, InParams, InSends, InAssigns}
-use Rattle.fj_parser.specs.Machine.{unnamed, State, run}
-use Rattle.fj_parser.specs.Readers.{run_of}
+use Rattle.fj_machine.specs.declared.mode.Owner.TheVariants as owner
+use Rattle.fj_machine.specs.declared.mode.Node.TheVariants as node
+use Rattle.fj_machine.specs.declared.mode.Mode.TheVariants.{AfterMark, InParams, InSends, InAssigns}
+use Rattle.fj_machine.specs.Machine.{unnamed, State, run}
+use Rattle.fj_machine.specs.Readers.{run_of}
 use Rattle.fj_parser.proofs.Complete.{named, after_params, after_sends, with_a_field, behind_ctor}
 use Rattle.fj_parser.proofs.ListsSound.{Accepts, never, passed, Read, Fixed, params_text, sends_text, Params, params_read, Sends, sends_read, Assigns, assigns_read}
 

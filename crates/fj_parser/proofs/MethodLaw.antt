@@ -10,14 +10,14 @@ use Rattle.cfj_model.specs.Roles.{Role, method_name, used_name, other_token}
 use Rattle.cfj_words.specs.Tokens.{Token, Id, CloseBrace, OpenParen, At, End}
 use Rattle.cfj_model.specs.TreeRoles.{roles_method}
 use Rattle.fj_parser.specs.declared.goal.Goal.TheVariants as goal
-use Rattle.fj_parser.specs.declared.mode.Node.TheVariants as node
-use Rattle.fj_parser.specs.declared.mode.Mode.{Mode}
-use Rattle.fj_parser.specs.declared.mode.Mode.TheVariants.{AfterMark, InMethods, AtEnd}
+use Rattle.fj_machine.specs.declared.mode.Node.TheVariants as node
+use Rattle.fj_machine.specs.declared.mode.Mode.{Mode}
+use Rattle.fj_machine.specs.declared.mode.Mode.TheVariants.{AfterMark, InMethods, AtEnd}
 use Rattle.fj_parser.specs.Goals.{none_yet, start_for, method_or_end, step_for, takes_name_for, reader_for}
 use Rattle.fj_parser.specs.Languages.{single_methods}
 use Rattle.fj_parser.specs.Laws.{Closes, GoesByName, IsPlainLanguage, Reads}
-use Rattle.fj_parser.specs.Machine.{unnamed, State, behind, step_in, emitted, pending, run}
-use Rattle.fj_parser.specs.Readers.{Run, then_run, run_of}
+use Rattle.fj_machine.specs.Machine.{unnamed, State, behind, step_in, emitted, pending, run}
+use Rattle.fj_machine.specs.Readers.{Run, then_run, run_of}
 use Rattle.fj_parser.proofs.Complete.{with_roles, method_rest, behind_head, method_run}
 use Rattle.fj_parser.proofs.Law.{end_at_open, end_stops}
 use Rattle.fj_parser.proofs.ListsSound.{is_whole, Accepts, never}

@@ -10,13 +10,13 @@ use Rattle.cfj_words.specs.Tokens.{Token, Id, ReturnWord, OpenBrace, CloseBrace,
 use Rattle.expression_reader.specs.Machine as expression
 use Rattle.expression_reader.proofs.Complete.{text_runs}
 use Rattle.fj_parser.specs.declared.goal.Goal.{Goal}
-use Rattle.fj_parser.specs.declared.mode.Owner.TheVariants as owner
-use Rattle.fj_parser.specs.declared.mode.Node.{Node}
-use Rattle.fj_parser.specs.declared.mode.Node.TheVariants as node
-use Rattle.fj_parser.specs.declared.mode.Mode.TheVariants.{AfterMark}
+use Rattle.fj_machine.specs.declared.mode.Owner.TheVariants as owner
+use Rattle.fj_machine.specs.declared.mode.Node.{Node}
+use Rattle.fj_machine.specs.declared.mode.Node.TheVariants as node
+use Rattle.fj_machine.specs.declared.mode.Mode.TheVariants.{AfterMark}
 use Rattle.fj_parser.specs.Goals.{reader_for}
-use Rattle.fj_parser.specs.Machine.{State, with_method, after_expression, in_expression}
-use Rattle.fj_parser.specs.Readers.{run_of}
+use Rattle.fj_machine.specs.Machine.{State, with_method, after_expression, in_expression}
+use Rattle.fj_machine.specs.Readers.{run_of}
 use Rattle.fj_parser.proofs.Complete.{with_roles, at_again, in_params, after_param_comma, after_param, after_params, in_methods, method_rest, roles_method_rest, behind_head, method_rest_run}
 use Rattle.fj_parser.proofs.Expressions.{unread_none, some_same, end_of_run, in_body, expression_text}
 use Rattle.fj_parser.proofs.MethodsSound.{methods_text}

@@ -14,11 +14,11 @@ use Rattle.expression_reader.specs.declared.mode.Mode.TheVariants as reading
 use Rattle.expression_reader.proofs.Law.{ends_once}
 use Rattle.expression_reader.proofs.Complete as expression_complete
 use Rattle.expression_reader.proofs.Sound as expression_sound
-use Rattle.fj_parser.specs.declared.mode.Owner.TheVariants as owner
-use Rattle.fj_parser.specs.declared.mode.Node.TheVariants as node
-use Rattle.fj_parser.specs.declared.mode.Mode.TheVariants.{AfterMark, InParams, InMethods, InExpression, AfterBody}
-use Rattle.fj_parser.specs.Machine.{unnamed, State, with_class, with_method, after_expression, in_expression, emitted, run}
-use Rattle.fj_parser.specs.Readers.{then_run, run_of}
+use Rattle.fj_machine.specs.declared.mode.Owner.TheVariants as owner
+use Rattle.fj_machine.specs.declared.mode.Node.TheVariants as node
+use Rattle.fj_machine.specs.declared.mode.Mode.TheVariants.{AfterMark, InParams, InMethods, InExpression, AfterBody}
+use Rattle.fj_machine.specs.Machine.{unnamed, State, with_class, with_method, after_expression, in_expression, emitted, run}
+use Rattle.fj_machine.specs.Readers.{then_run, run_of}
 use Rattle.fj_parser.proofs.Complete.{after_params, in_methods, with_a_method}
 use Rattle.fj_parser.proofs.Expressions.{in_body, expression_text}
 use Rattle.fj_parser.proofs.ListsSound.{is_whole, Accepts, Stops, never, Read, Fixed, params_text, Params, params_read}

@@ -19,12 +19,12 @@ use Rattle.formula_reader.proofs.Leads.{Leads, last, more, run_leads}
 use Rattle.fj_parser.specs.Goals.{step_for, reader_for}
 use Rattle.fj_parser.specs.Languages.{ModelTree, without_classes, models}
 use Rattle.fj_parser.specs.Laws.{Closes, GoesByName, Reads}
-use Rattle.fj_parser.specs.Machine.{unnamed, State, start, after_formula, in_formula, opens_constraint, step_in, step, emitted, pending, pending_in, run}
-use Rattle.fj_parser.specs.Machine as machine
-use Rattle.fj_parser.specs.Readers.{Reader, Run, then_run, run_of}
+use Rattle.fj_machine.specs.Machine.{unnamed, State, start, after_formula, in_formula, opens_constraint, step_in, step, emitted, pending, pending_in, run}
+use Rattle.fj_machine.specs.Machine as machine
+use Rattle.fj_machine.specs.Readers.{Reader, Run, then_run, run_of}
 use Rattle.fj_parser.specs.declared.goal.Goal.TheVariants as goal
-use Rattle.fj_parser.specs.declared.mode.Mode.{Mode}
-use Rattle.fj_parser.specs.declared.mode.Mode.TheVariants.{Begin, AfterFeatures, AfterFeature, AfterFeatureComma, Start, InConstraint, AtEnd}
+use Rattle.fj_machine.specs.declared.mode.Mode.{Mode}
+use Rattle.fj_machine.specs.declared.mode.Mode.TheVariants.{Begin, AfterFeatures, AfterFeature, AfterFeatureComma, Start, InConstraint, AtEnd}
 use Rattle.fj_parser.proofs.Closing.{Reaches}
 use Rattle.fj_parser.proofs.Complete.{ended, text_runs, formula_runs}
 use Rattle.fj_parser.proofs.Law.{laws, closed_text, settles}

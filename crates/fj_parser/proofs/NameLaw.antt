@@ -6,11 +6,11 @@ use Rattle.cfj_words.specs.Tokens.{Token, Id, End}
 use Rattle.fj_parser.specs.Goals.{start_for, step_for, takes_name_for, reader_for}
 use Rattle.fj_parser.specs.Languages.{names}
 use Rattle.fj_parser.specs.Laws.{Closes, GoesByName, Reads}
-use Rattle.fj_parser.specs.Machine.{unnamed, State, emitted, pending}
-use Rattle.fj_parser.specs.Readers.{Reader, Run, run_of}
+use Rattle.fj_machine.specs.Machine.{unnamed, State, emitted, pending}
+use Rattle.fj_machine.specs.Readers.{Reader, Run, run_of}
 use Rattle.fj_parser.specs.declared.goal.Goal.TheVariants as goal
-use Rattle.fj_parser.specs.declared.mode.Mode.{Mode}
-use Rattle.fj_parser.specs.declared.mode.Mode.TheVariants.{InMembers, AfterType, AtEnd}
+use Rattle.fj_machine.specs.declared.mode.Mode.{Mode}
+use Rattle.fj_machine.specs.declared.mode.Mode.TheVariants.{InMembers, AfterType, AtEnd}
 use Rattle.fj_parser.proofs.GoalRuns.{goal_settles}
 use Rattle.fj_parser.proofs.Naming.{some_name, some_name_is, name_stops}
 

@@ -13,13 +13,13 @@ use Rattle.expression_reader.specs.Machine as expression
 use Rattle.expression_reader.specs.Views.{settles_short}
 use Rattle.expression_reader.proofs.Short.{is_name_of, own_short, roles_short}
 use Rattle.formula_reader.specs.Machine as formula
-use Rattle.fj_parser.specs.Machine.{State, name_role, pending_in, role, role_in, settles_in, token_role, waits, waits_in}
-use Rattle.fj_parser.specs.MachineViews.{names_fit_in}
+use Rattle.fj_machine.specs.Machine.{State, name_role, pending_in, role, role_in, settles_in, token_role, waits, waits_in}
+use Rattle.fj_machine.specs.MachineViews.{names_fit_in}
 use Rattle.fj_parser.specs.Waiting.{WaitedWithin}
-use Rattle.fj_parser.specs.declared.mode.Mode.{Mode}
-use Rattle.fj_parser.specs.declared.mode.Mode.TheVariants.{InConstraint, AfterMark, AfterClass, AfterParamType, InExpression}
-use Rattle.fj_parser.specs.declared.mode.Node.TheVariants as node
-use Rattle.fj_parser.specs.declared.mode.Owner.TheVariants as owner
+use Rattle.fj_machine.specs.declared.mode.Mode.{Mode}
+use Rattle.fj_machine.specs.declared.mode.Mode.TheVariants.{InConstraint, AfterMark, AfterClass, AfterParamType, InExpression}
+use Rattle.fj_machine.specs.declared.mode.Node.TheVariants as node
+use Rattle.fj_machine.specs.declared.mode.Owner.TheVariants as owner
 use Rattle.fj_symbols.specs.Views.{is_identifier_role, is_name_token, is_read, symbol_seen}
 use Rattle.fj_symbols.specs.declared.symbol.Symbol.{Symbol}
 use Rattle.fj_symbols.specs.declared.symbol.Symbol.TheVariants as symbol

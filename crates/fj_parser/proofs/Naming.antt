@@ -15,12 +15,12 @@ use Rattle.formula_reader.proofs.Law as formula_law
 use Rattle.expression_reader.specs.Machine as expression
 use Rattle.expression_reader.proofs.Law as expression_law
 use Rattle.fj_parser.specs.Laws.{GoesByName}
-use Rattle.fj_parser.specs.declared.mode.Owner.TheVariants as owner
-use Rattle.fj_parser.specs.declared.mode.Node.TheVariants as node
-use Rattle.fj_parser.specs.declared.mode.Mode.{Mode}
-use Rattle.fj_parser.specs.declared.mode.Mode.TheVariants.{Begin, AfterFeatures, AfterFeature, AfterFeatureComma, Start, InConstraint, BetweenClasses, AfterAt, AfterMark, AfterMarkedType, AfterClass, AfterClassName, AfterExtends, AfterParent, InMembers, AfterType, AfterFieldName, InParams, AfterParamComma, AfterParamType, AfterParam, AfterParams, InBody, AfterSuper, InSends, AfterSendComma, AfterSend, AfterSends, InAssigns, AfterThis, AfterThisDot, AfterAssigned, AfterEquals, AfterSecondName, InMethods, AfterResult, AfterMethodName, InMethodBody, InExpression, AfterBody}
-use Rattle.fj_parser.specs.Machine.{unnamed, State, start, after_formula, in_formula, after_expression, in_expression, opens_constraint, step_in, step, emitted, takes_name_in, reader, run}
-use Rattle.fj_parser.specs.Readers.{Run, then_run, run_of}
+use Rattle.fj_machine.specs.declared.mode.Owner.TheVariants as owner
+use Rattle.fj_machine.specs.declared.mode.Node.TheVariants as node
+use Rattle.fj_machine.specs.declared.mode.Mode.{Mode}
+use Rattle.fj_machine.specs.declared.mode.Mode.TheVariants.{Begin, AfterFeatures, AfterFeature, AfterFeatureComma, Start, InConstraint, BetweenClasses, AfterAt, AfterMark, AfterMarkedType, AfterClass, AfterClassName, AfterExtends, AfterParent, InMembers, AfterType, AfterFieldName, InParams, AfterParamComma, AfterParamType, AfterParam, AfterParams, InBody, AfterSuper, InSends, AfterSendComma, AfterSend, AfterSends, InAssigns, AfterThis, AfterThisDot, AfterAssigned, AfterEquals, AfterSecondName, InMethods, AfterResult, AfterMethodName, InMethodBody, InExpression, AfterBody}
+use Rattle.fj_machine.specs.Machine.{unnamed, State, start, after_formula, in_formula, after_expression, in_expression, opens_constraint, step_in, step, emitted, takes_name_in, reader, run}
+use Rattle.fj_machine.specs.Readers.{Run, then_run, run_of}
 use Rattle.fj_parser.proofs.Complete.{same_name}
 
 -- whatever the first tests say

@@ -7,7 +7,7 @@ use Rattle.cfj_model.specs.declared.member.Member.{Member}
 use Rattle.cfj_model.specs.declared.member.Member.TheVariants as member
 use Rattle.fj_parser.specs.Ending.{IsReadTo}
 use Rattle.fj_parser.specs.GoalViews.{met_of, reader_of, IsPart}
-use Rattle.fj_parser.specs.Machine.{State, unnamed}
+use Rattle.fj_machine.specs.Machine.{State, unnamed}
 use Rattle.fj_parser.specs.declared.goal.Goal.TheVariants as goal
 use Rattle.fj_parser.specs.declared.part.Part.{Part}
 use Rattle.fj_parser.proofs.ClassLaw.{class_laws, class_stands}

@@ -8,8 +8,8 @@ use Rattle.fj_parser.specs.Goals.{reader_for}
 use Rattle.fj_parser.specs.GoalViews.{met_of, reader_of, IsPart}
 use Rattle.fj_parser.specs.Languages.{with_features}
 use Rattle.fj_parser.specs.Laws.{Reads}
-use Rattle.fj_parser.specs.Machine.{State}
-use Rattle.fj_parser.specs.Readers.{SettlesEach}
+use Rattle.fj_machine.specs.Machine.{State}
+use Rattle.fj_machine.specs.Readers.{SettlesEach}
 use Rattle.fj_parser.specs.declared.goal.Goal.{Goal}
 use Rattle.fj_parser.specs.declared.part.Part.{Part}
 use Rattle.fj_parser.proofs.Endings.{whole_text, stops_first}

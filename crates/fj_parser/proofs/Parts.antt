@@ -13,15 +13,15 @@ use Rattle.cfj_model.specs.Roles.{Role}
 use Rattle.formula_reader.specs.Machine as formula
 use Rattle.expression_reader.specs.Machine as expression
 use Rattle.fj_parser.specs.declared.goal.Goal.{Goal}
-use Rattle.fj_parser.specs.declared.mode.Owner.{Owner}
-use Rattle.fj_parser.specs.declared.mode.Owner.TheVariants as owner
-use Rattle.fj_parser.specs.declared.mode.Node.{Node}
-use Rattle.fj_parser.specs.declared.mode.Node.TheVariants as node
-use Rattle.fj_parser.specs.declared.mode.Mode.{Mode}
-use Rattle.fj_parser.specs.declared.mode.Mode.TheVariants.{Begin, AfterFeatures, AfterFeature, AfterFeatureComma, Start, InConstraint, BetweenClasses, AfterAt, AfterMark, AfterMarkedType, AfterClass, AfterClassName, AfterExtends, AfterParent, InMembers, AfterType, AfterFieldName, InParams, AfterParamComma, AfterParamType, AfterParam, AfterParams, InBody, AfterSuper, InSends, AfterSendComma, AfterSend, AfterSends, InAssigns, AfterThis, AfterThisDot, AfterAssigned, AfterEquals, AfterSecondName, InMethods, AfterResult, AfterMethodName, InMethodBody, InExpression, AfterBody, AtEnd}
+use Rattle.fj_machine.specs.declared.mode.Owner.{Owner}
+use Rattle.fj_machine.specs.declared.mode.Owner.TheVariants as owner
+use Rattle.fj_machine.specs.declared.mode.Node.{Node}
+use Rattle.fj_machine.specs.declared.mode.Node.TheVariants as node
+use Rattle.fj_machine.specs.declared.mode.Mode.{Mode}
+use Rattle.fj_machine.specs.declared.mode.Mode.TheVariants.{Begin, AfterFeatures, AfterFeature, AfterFeatureComma, Start, InConstraint, BetweenClasses, AfterAt, AfterMark, AfterMarkedType, AfterClass, AfterClassName, AfterExtends, AfterParent, InMembers, AfterType, AfterFieldName, InParams, AfterParamComma, AfterParamType, AfterParam, AfterParams, InBody, AfterSuper, InSends, AfterSendComma, AfterSend, AfterSends, InAssigns, AfterThis, AfterThisDot, AfterAssigned, AfterEquals, AfterSecondName, InMethods, AfterResult, AfterMethodName, InMethodBody, InExpression, AfterBody, AtEnd}
 use Rattle.fj_parser.specs.Goals.{none_yet, step_for, reader_for}
-use Rattle.fj_parser.specs.Machine.{unnamed, State, class_of, after_formula, in_formula, after_expression, in_expression, opens_constraint, step_in, step, emitted}
-use Rattle.fj_parser.specs.Readers.{Run, then_run, run_of}
+use Rattle.fj_machine.specs.Machine.{unnamed, State, class_of, after_formula, in_formula, after_expression, in_expression, opens_constraint, step_in, step, emitted}
+use Rattle.fj_machine.specs.Readers.{Run, then_run, run_of}
 
 -- lists that are the same with one more item
 pub same_but_last : (a b : List Token) (t u : Token) → a ++ t ∷ [] ≡ b ++ u ∷ [] → a ≡ b

@@ -11,7 +11,7 @@ use Rattle.cfj_model.specs.Roles.{Tally}
 use Rattle.cfj_words.specs.Tokens.{Token, token_of, token_seen, place_of}
 use Rattle.fj_parser.specs.Accepting.{IsAccepted, IsBrokenAt, IsToldAt}
 use Rattle.fj_parser.specs.Laws.{Reads}
-use Rattle.fj_parser.specs.Readers.{Reader, SettlesEach}
+use Rattle.fj_machine.specs.Readers.{Reader, SettlesEach}
 use Rattle.fj_parser.specs.Reading.{IsStanding, IsPlaced}
 use Rattle.fj_parser.proofs.Progress.{reads_first, reads_more, stands_here, ends_at_token, waiting_at_lexeme}
 use Rattle.fj_parser.proofs.Readers.{roles_long, settles_each}

@@ -10,7 +10,7 @@ use Rattle.cfj_model.specs.Roles.{Role, other_token, Tally, counted, tallied, br
 use Rattle.cfj_words.specs.Tokens.{Token, End, Takes, token_of, token_seen, place_of}
 use Rattle.fj_parser.specs.Accepting.{BreaksAt, IsAccepted, IsRefused, settled, waiting, misplaced}
 use Rattle.fj_parser.specs.Laws.{Reads}
-use Rattle.fj_parser.specs.Readers.{Reader, SettlesEach, run_of}
+use Rattle.fj_machine.specs.Readers.{Reader, SettlesEach, run_of}
 use Rattle.fj_parser.specs.Reading.{IsReading}
 use Rattle.fj_parser.proofs.FirstFault.{front_of, LongestFrom, longest_from, standing_one}
 use Rattle.fj_parser.proofs.Readers.{run_more, roles_long, settles_each, cannot_go_on, can_go_on, begun, misplaced_is, WholeText, text_read}

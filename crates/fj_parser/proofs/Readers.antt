@@ -9,7 +9,7 @@ use Rattle.cfj_model.specs.declared.fault.FaultKind.TheVariants as fault
 use Rattle.cfj_model.specs.Faults.{Language, Begins, CanGoOn, IsMisplaced, reserved, other, no_name}
 use Rattle.fj_symbols.specs.Views.{are_read}
 use Rattle.fj_parser.specs.Laws.{Settles, alike, as_cast, Closes, GoesByName, Reads}
-use Rattle.fj_parser.specs.Readers.{Reader, SettlesEach, Run, with_roles, then_run, run_of, misplaced_kind}
+use Rattle.fj_machine.specs.Readers.{Reader, SettlesEach, Run, with_roles, then_run, run_of, misplaced_kind}
 
 -- two lists that begin one list, with the same length
 pub same_front : (a b x y : List Role) → length a ≡ length b → a ++ x ≡ b ++ y → a ≡ b

@@ -7,11 +7,11 @@ use Rattle.cfj_model.specs.Roles.{Role, other_token, are_settled}
 use Rattle.cfj_words.specs.Tokens.{Token, Id, End}
 use Rattle.fj_symbols.specs.Views.{are_read}
 use Rattle.fj_parser.specs.declared.goal.Goal.{Goal}
-use Rattle.fj_parser.specs.declared.mode.Mode.TheVariants.{AtEnd}
+use Rattle.fj_machine.specs.declared.mode.Mode.TheVariants.{AtEnd}
 use Rattle.fj_parser.specs.Goals.{start_for, step_for, takes_name_for, reader_for}
 use Rattle.fj_parser.specs.Laws.{Closes, GoesByName, IsPlainLanguage, Reads}
-use Rattle.fj_parser.specs.Machine.{State, emitted, pending, reader, run}
-use Rattle.fj_parser.specs.Readers.{Run, then_run, run_of}
+use Rattle.fj_machine.specs.Machine.{State, emitted, pending, reader, run}
+use Rattle.fj_machine.specs.Readers.{Run, then_run, run_of}
 use Rattle.fj_parser.proofs.Closing.{Ending, ending}
 use Rattle.fj_parser.proofs.Complete as complete
 use Rattle.fj_parser.proofs.Law.{reach_stops}

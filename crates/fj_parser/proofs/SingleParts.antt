@@ -8,12 +8,12 @@ use Rattle.cfj_words.specs.Tokens.{Token, End}
 use Rattle.expression_reader.specs.Machine as expression
 use Rattle.expression_reader.proofs.Finishing.{waited_first}
 use Rattle.fj_parser.specs.declared.goal.Goal.{Goal}
-use Rattle.fj_parser.specs.declared.mode.Mode.{Mode}
-use Rattle.fj_parser.specs.declared.mode.Mode.TheVariants.{Begin, Start, BetweenClasses, InMembers, AfterType, InMethods, AfterMethodName, InExpression, AtEnd}
+use Rattle.fj_machine.specs.declared.mode.Mode.{Mode}
+use Rattle.fj_machine.specs.declared.mode.Mode.TheVariants.{Begin, Start, BetweenClasses, InMembers, AfterType, InMethods, AfterMethodName, InExpression, AtEnd}
 use Rattle.fj_parser.specs.Goals.{step_for, reader_for}
 use Rattle.fj_parser.specs.Laws.{Settles, alike}
-use Rattle.fj_parser.specs.Machine.{State, with_method, after_expression, in_expression, step_in, step, emitted, pending, pending_in, reader, run}
-use Rattle.fj_parser.specs.Readers.{Run, with_roles, then_run, run_of}
+use Rattle.fj_machine.specs.Machine.{State, with_method, after_expression, in_expression, step_in, step, emitted, pending, pending_in, reader, run}
+use Rattle.fj_machine.specs.Readers.{Run, with_roles, then_run, run_of}
 use Rattle.fj_parser.proofs.Closing.{Ending}
 use Rattle.fj_parser.proofs.Expressions.{in_body}
 use Rattle.fj_parser.proofs.Law.{begun_on}

@@ -10,16 +10,16 @@ use Rattle.cfj_model.specs.FormulaGrammar.{IffTree, spell_iff}
 use Rattle.cfj_model.specs.Grammar.{Declared, MethodTree, ClassTree, Tree, constraint_word, features_word, spell_name, spell_field, spell_ctor, spell_constraint, spell_class, spell, value_class}
 use Rattle.cfj_model.specs.Marks.{in_order, each_behind, spell_mark, spell_marks, color_of, colored, colors_of}
 use Rattle.cfj_model.specs.Roles.{Role, used_name, other_token}
-use Rattle.fj_parser.specs.declared.mode.Node.TheVariants as node
-use Rattle.fj_parser.specs.declared.mode.Mode.TheVariants.{AfterFeatures, AfterFeature, Start, InConstraint, AfterMark, AfterClass}
+use Rattle.fj_machine.specs.declared.mode.Node.TheVariants as node
+use Rattle.fj_machine.specs.declared.mode.Mode.TheVariants.{AfterFeatures, AfterFeature, Start, InConstraint, AfterMark, AfterClass}
 use Rattle.formula_reader.specs.Machine as formula
 use Rattle.formula_reader.specs.declared.mode.Mode as formula_mode
 use Rattle.formula_reader.specs.declared.mode.Mode.TheVariants.{Want, After, Done}
 use Rattle.formula_reader.proofs.Law.{only_semicolon_ends, semicolon_ends}
 use Rattle.formula_reader.proofs.Law as formula_law
 use Rattle.formula_reader.proofs.Leads.{Leads, last, more, leads_run}
-use Rattle.fj_parser.specs.Machine.{State, behind, before_classes, start, after_formula, in_formula, opens_constraint, run}
-use Rattle.fj_parser.specs.Readers.{then_run, run_of}
+use Rattle.fj_machine.specs.Machine.{State, behind, before_classes, start, after_formula, in_formula, opens_constraint, run}
+use Rattle.fj_machine.specs.Readers.{then_run, run_of}
 use Rattle.fj_parser.proofs.Complete.{formula_text}
 use Rattle.fj_parser.proofs.ListsSound.{Accepts, Stops, never, passed, Read}
 use Rattle.fj_parser.proofs.MembersSound.{CtorTree, class_with, members_text, behind_members, ReadMembers, members_read}

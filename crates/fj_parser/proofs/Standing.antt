@@ -15,12 +15,12 @@ use Rattle.expression_reader.specs.declared.mode.Mode as expression_mode
 use Rattle.expression_reader.specs.declared.mode.Mode.TheVariants as expression_variant
 use Rattle.expression_reader.proofs.Counting.{read_settled}
 use Rattle.expression_reader.proofs.Law as expression_law
-use Rattle.fj_parser.specs.declared.mode.Owner.TheVariants as owner
-use Rattle.fj_parser.specs.declared.mode.Node.TheVariants as node
-use Rattle.fj_parser.specs.declared.mode.Mode.{Mode}
-use Rattle.fj_parser.specs.declared.mode.Mode.TheVariants.{Begin, AfterFeatures, AfterFeature, AfterFeatureComma, Start, InConstraint, BetweenClasses, AfterAt, AfterMark, AfterMarkedType, AfterClass, AfterClassName, AfterExtends, AfterParent, InMembers, AfterType, AfterFieldName, InParams, AfterParamComma, AfterParamType, AfterParam, AfterParams, InBody, AfterSuper, InSends, AfterSendComma, AfterSend, AfterSends, InAssigns, AfterThis, AfterThisDot, AfterAssigned, AfterEquals, AfterSecondName, InMethods, AfterResult, AfterMethodName, InMethodBody, InExpression, AfterBody}
-use Rattle.fj_parser.specs.Machine.{unnamed, State, start, with_method, after_formula, in_formula, after_expression, in_expression, opens_constraint, step_in, step, token_role, role_in, pending_in, pending, settles_in, waits_in, emitted, run}
-use Rattle.fj_parser.specs.Readers.{Run, then_run, run_of}
+use Rattle.fj_machine.specs.declared.mode.Owner.TheVariants as owner
+use Rattle.fj_machine.specs.declared.mode.Node.TheVariants as node
+use Rattle.fj_machine.specs.declared.mode.Mode.{Mode}
+use Rattle.fj_machine.specs.declared.mode.Mode.TheVariants.{Begin, AfterFeatures, AfterFeature, AfterFeatureComma, Start, InConstraint, BetweenClasses, AfterAt, AfterMark, AfterMarkedType, AfterClass, AfterClassName, AfterExtends, AfterParent, InMembers, AfterType, AfterFieldName, InParams, AfterParamComma, AfterParamType, AfterParam, AfterParams, InBody, AfterSuper, InSends, AfterSendComma, AfterSend, AfterSends, InAssigns, AfterThis, AfterThisDot, AfterAssigned, AfterEquals, AfterSecondName, InMethods, AfterResult, AfterMethodName, InMethodBody, InExpression, AfterBody}
+use Rattle.fj_machine.specs.Machine.{unnamed, State, start, with_method, after_formula, in_formula, after_expression, in_expression, opens_constraint, step_in, step, token_role, role_in, pending_in, pending, settles_in, waits_in, emitted, run}
+use Rattle.fj_machine.specs.Readers.{Run, then_run, run_of}
 use Rattle.fj_parser.proofs.ListsSound.{never}
 use Rattle.fj_parser.proofs.Sound.{none_undone}
 

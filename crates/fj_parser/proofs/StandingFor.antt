@@ -4,7 +4,7 @@ use Rattle.cfj_model.specs.Faults.{Language}
 use Rattle.cfj_model.specs.Roles.{Role}
 use Rattle.cfj_words.specs.Tokens.{Token}
 use Rattle.fj_parser.specs.Laws.{Closes, Reads}
-use Rattle.fj_parser.specs.Readers.{Reader}
+use Rattle.fj_machine.specs.Readers.{Reader}
 use Rattle.fj_parser.specs.Wanted.{standing_for}
 
 module _ {V W : Type 0} (f : V → W) (l : Language V) (m : Reader) (laws : Reads l m) where

@@ -13,7 +13,7 @@ use Rattle.fj_lexer.specs.declared.token.Token as lexer
 use Rattle.fj_lexer.specs.declared.token.LexFault.{LexFault}
 use Rattle.fj_parser.specs.Accepting.{IsTaken, IsToldAt, IsTold, of_lexer}
 use Rattle.fj_parser.specs.Ending.{IsStopped, at_token, at_no_lexeme}
-use Rattle.fj_parser.specs.Readers.{Reader, SettlesEach, IsReached}
+use Rattle.fj_machine.specs.Readers.{Reader, SettlesEach, IsReached}
 use Rattle.fj_parser.specs.Reading.{IsReading, IsPlaced, fault_kind, fault_place}
 use Rattle.fj_symbols.specs.Views.{is_read, token_read}
 use Rattle.fj_parser.proofs.LexedTokens.{token_given, FaultGiven, fault_given, read_is}

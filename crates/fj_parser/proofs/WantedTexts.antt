@@ -9,7 +9,7 @@ use Rattle.cfj_model.specs.Faults.{IsTextOf, IsFirstFault}
 use Rattle.fj_parser.specs.Answers.{IsReadAs, IsRefusedAs}
 use Rattle.fj_parser.specs.Goals.{reader_for}
 use Rattle.fj_parser.specs.Languages.{single_fields, single_methods, single_members}
-use Rattle.fj_parser.specs.Machine.{unnamed}
+use Rattle.fj_machine.specs.Machine.{unnamed}
 use Rattle.fj_parser.specs.Wanted.{members_wanted, standing_for}
 use Rattle.fj_parser.specs.declared.goal.Goal.TheVariants as goal
 use Rattle.fj_parser.specs.declared.want.Want.{Want}

@@ -5,7 +5,7 @@ use Rattle.cfj_model.specs.declared.fault.FaultKind.{FaultKind}
 use Rattle.cfj_words.specs.Tokens.{Token}
 use Rattle.cfj_model.specs.Roles.{Role, Tally, broken_by, counted, tallied, AreWithin}
 use Rattle.fj_lexer.specs.declared.token.LexFault.{LexFault}
-use Rattle.fj_parser.specs.Readers.{Reader, misplaced_kind}
+use Rattle.fj_machine.specs.Readers.{Reader, misplaced_kind}
 use Rattle.fj_parser.specs.Reading.{fault_kind, fault_place}
 use Rattle.fj_parser.specs.Waiting.{waiting_places, waiting_roles}
 use Rattle.fj_parser.specs.declared.waiting.Refusal.{Refusal}

@@ -4,10 +4,10 @@ use Rattle.std.specs.Prelude.{◌≡◌, ℕ, ◌+◌, ◌≤◌, length}
 use Rattle.cfj_model.specs.ProductLines.{most_features, most_in_ctor, most_nodes}
 use Rattle.cfj_model.specs.Roles.{Tally}
 use Rattle.expression_reader.specs.Reading.{owed}
-use Rattle.fj_parser.specs.Machine.{State}
-use Rattle.fj_parser.specs.declared.mode.Node.TheVariants as node
-use Rattle.fj_parser.specs.declared.mode.Mode.{Mode}
-use Rattle.fj_parser.specs.declared.mode.Mode.TheVariants.{Begin, AfterFeatures, AfterFeature, AfterFeatureComma, Start, InConstraint, BetweenClasses, AfterAt, AfterMark, AfterClass, InMethods, AfterResult, AfterMethodName, InExpression, AfterBody, AtEnd}
+use Rattle.fj_machine.specs.Machine.{State}
+use Rattle.fj_machine.specs.declared.mode.Node.TheVariants as node
+use Rattle.fj_machine.specs.declared.mode.Mode.{Mode}
+use Rattle.fj_machine.specs.declared.mode.Mode.TheVariants.{Begin, AfterFeatures, AfterFeature, AfterFeatureComma, Start, InConstraint, BetweenClasses, AfterAt, AfterMark, AfterClass, InMethods, AfterResult, AfterMethodName, InExpression, AfterBody, AtEnd}
 
 -- The places of a text, by what may be in hand there: before a class's name nothing of a class; behind a constructor, before a
 -- method's parameters, no parameters; before a method's body no expression; and in it, or at the end of the text, anything.

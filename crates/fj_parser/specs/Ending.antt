@@ -9,7 +9,7 @@ use Rattle.cfj_model.specs.Roles.{Tally}
 use Rattle.cfj_words.specs.Tokens.{Token, End, token_seen, place_of}
 use Rattle.fj_lexer.specs.declared.token.LexFault.{LexFault}
 use Rattle.fj_parser.specs.Accepting.{IsAccepted, IsToldAt, IsTold}
-use Rattle.fj_parser.specs.Readers.{Reader}
+use Rattle.fj_machine.specs.Readers.{Reader}
 use Rattle.fj_parser.specs.Reading.{IsReading, IsPlaced, fault_kind, fault_place}
 
 -- Behind all tokens of the text the reader takes the end, which leads it to this state, and nothing breaks.

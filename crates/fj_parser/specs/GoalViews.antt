@@ -3,13 +3,13 @@
 use Rattle.std.specs.Prelude.{◌≡◌, ℕ, Bool, true, false, List, Some, None}
 use Rattle.cfj_words.specs.Tokens.{Token, Semicolon, End}
 use Rattle.cfj_model.specs.Roles.{Tally}
-use Rattle.fj_parser.specs.Goals.{step_for, with_single_field, reader_for}
+use Rattle.fj_parser.specs.Goals.{step_for, reader_for}
 use Rattle.fj_parser.specs.Languages.{with_features}
-use Rattle.fj_parser.specs.Machine.{State, step_in, to}
+use Rattle.fj_machine.specs.Machine.{State, step_in, to, with_single_field}
 use Rattle.fj_parser.specs.declared.goal.Goal.{Goal}
-use Rattle.fj_parser.specs.declared.mode.Mode.{Mode}
-use Rattle.fj_parser.specs.declared.mode.Mode.TheVariants.{AtEnd}
-use Rattle.fj_parser.specs.Readers.{Reader}
+use Rattle.fj_machine.specs.declared.mode.Mode.{Mode}
+use Rattle.fj_machine.specs.declared.mode.Mode.TheVariants.{AtEnd}
+use Rattle.fj_machine.specs.Readers.{Reader}
 use Rattle.fj_parser.specs.declared.part.Part.{Part}
 use Rattle.fj_parser.specs.declared.passage.Passage.{Passage}
 use Rattle.fj_parser.specs.declared.passage.Passage.TheVariants.{Stops, Ends, EndsField, EndsExpression, Steps}

@@ -6,12 +6,12 @@ use Rattle.cfj_model.specs.declared.class.Class.{Class}
 use Rattle.cfj_model.specs.declared.class.Field.{Field}
 use Rattle.cfj_model.specs.declared.class.Method.{Method}
 use Rattle.cfj_words.specs.Tokens.{Token, Id, ClassWord, OpenParen, Semicolon, At, End}
-use Rattle.fj_parser.specs.Readers.{Reader}
-use Rattle.fj_parser.specs.Machine.{State, behind, start, step_in, emitted, pending, takes_name_in, to, unnamed}
+use Rattle.fj_machine.specs.Readers.{Reader}
+use Rattle.fj_machine.specs.Machine.{State, behind, start, step_in, emitted, pending, takes_name_in, to, unnamed}
 use Rattle.fj_parser.specs.declared.goal.Goal.{Goal}
 use Rattle.fj_parser.specs.declared.goal.Goal.TheVariants as goal
-use Rattle.fj_parser.specs.declared.mode.Mode.{Mode}
-use Rattle.fj_parser.specs.declared.mode.Mode.TheVariants.{Begin, Start, BetweenClasses, InMembers, AfterType, InMethods, AfterMethodName, InExpression, AfterBody, AtEnd}
+use Rattle.fj_machine.specs.declared.mode.Mode.{Mode}
+use Rattle.fj_machine.specs.declared.mode.Mode.TheVariants.{Begin, Start, BetweenClasses, InMembers, AfterType, InMethods, AfterMethodName, InExpression, AfterBody, AtEnd}
 
 -- Before the first token: of a class or a member with these features, of a constructor of the class of this name too.
 abbrev pub start_for : Goal → List (List ℕ) → List ℕ → State
@@ -53,17 +53,6 @@ method_or_end (m ∷ ms) s t = ends s t
 abbrev pub member_or_end : List Field → List Method → State → Token → Option State
 member_or_end [] ms s t = method_or_end ms s t
 member_or_end (f ∷ fs) ms s t = ends s t
-
--- the head of a member was a field's
-abbrev pub with_single_field : State → State
-with_single_field s =
-    record s {
-      mode = InMethods;
-      fields = record { alt = 0; colors = s.method_colors; of = s.result_type; name = s.method } ∷ [];
-      method_colors = 0;
-      result_type = unnamed;
-      method = unnamed;
-    }
 
 abbrev pub step_for : Goal → Mode → State → Token → Option State
 step_for goal.Model Begin s At = None

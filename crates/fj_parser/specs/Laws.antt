@@ -6,7 +6,7 @@ use Rattle.cfj_words.specs.Names.{is_identifier}
 use Rattle.cfj_words.specs.Tokens.{Token, Id, End}
 use Rattle.cfj_model.specs.Roles.{Role, casts, other_token, are_settled}
 use Rattle.fj_symbols.specs.Views.{are_read}
-use Rattle.fj_parser.specs.Readers.{Reader, run_of}
+use Rattle.fj_machine.specs.Readers.{Reader, run_of}
 
 -- Roles that follow are at first those that waited; or what waited was a cast, at most its bracket, its name and its bracket.
 pub data Settles (waiting rs : List Role) : Type 0 where

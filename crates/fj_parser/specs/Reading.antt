@@ -3,16 +3,13 @@
 use Rattle.std.specs.Prelude.{◌≡◌, ℕ, ◌+◌, List, length, take, slice_get, Some}
 use Rattle.std.specs.Str.{chars}
 use Rattle.cfj_model.specs.Faults.{StandsBehind}
-use Rattle.cfj_model.specs.ProductLines.{ProductLine}
 use Rattle.cfj_model.specs.Roles.{Role, Tally, tallied, AreWithin}
 use Rattle.cfj_words.specs.Tokens.{Token, Takes, place_of}
-use Rattle.cfj_logic.specs.declared.formula.Formula.{Formula}
-use Rattle.cfj_model.specs.declared.class.Class.{Class}
 use Rattle.cfj_model.specs.declared.fault.FaultKind.{FaultKind}
 use Rattle.cfj_model.specs.declared.fault.FaultKind.TheVariants as fault
 use Rattle.fj_lexer.specs.declared.token.LexFault.{LexFault}
 use Rattle.fj_lexer.specs.declared.token.LexFault.TheVariants.{BadChar, OpenComment}
-use Rattle.fj_parser.specs.Readers.{Reader, run_of}
+use Rattle.fj_machine.specs.Readers.{Reader, run_of}
 
 -- The tokens before the rest of a text are read: by the reader, and by the tally behind what was met, which found nothing that
 -- breaks among the roles that are settled.
@@ -35,10 +32,6 @@ pub record IsPlaced (met : Tally) (m : Reader) (text rest : List ℕ) (s : m.Sta
   pub reading : IsReading met m text rest s t
   pub each : length places ≡ length (m.pending s)
   pub stand : (i at : ℕ) → slice_get places i ≡ Some at → IsStanding text (take (length reading.roles + i) reading.tokens) at
-
--- the product line with these features, constraints and classes
-abbrev pub of_parts : List (List ℕ) → List Formula → List Class → ProductLine
-of_parts features constraints classes = record { model = record { features = features; constraints = constraints }; classes = classes }
 
 -- the fault that the lexer tells, as the grammar names it
 abbrev pub fault_place : LexFault → ℕ

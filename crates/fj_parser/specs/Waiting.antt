@@ -6,7 +6,7 @@ use Rattle.cfj_words.specs.Tokens.{Token}
 use Rattle.expression_reader.specs.Machine.{as_cast, settled}
 use Rattle.expression_reader.specs.declared.roles.Settling.{Settling}
 use Rattle.expression_reader.specs.declared.roles.Settling.TheVariants.{Stays, Cast}
-use Rattle.fj_parser.specs.Machine.{State, pending, settles}
+use Rattle.fj_machine.specs.Machine.{State, pending, settles}
 use Rattle.fj_parser.specs.declared.waiting.Waiting.{Waiting}
 use Rattle.fj_parser.specs.declared.waiting.Waiting.TheVariants.{Nothing, Bracket, Name, Closed}
 

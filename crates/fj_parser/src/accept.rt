@@ -4,21 +4,21 @@ ghost use Rattle.std.specs.Prelude.{◌≡◌, ◌&&◌, if◌then◌else◌, []
 ghost use Rattle.cfj_words.specs.Tokens.{is_reserved_word};
 ghost use Rattle.expression_reader.specs.Machine.{settled};
 ghost use Rattle.fj_parser.specs.Accepting.{AreCounted, Outcome, OwnOutcome};
-ghost use Rattle.fj_parser.specs.Machine.{pending, role, waits};
-ghost use Rattle.fj_parser.specs.MachineViews.{machine_seen, IsRoomy};
+ghost use Rattle.fj_machine.specs.Machine.{pending, role, waits};
+ghost use Rattle.fj_machine.specs.MachineViews.{machine_seen, IsRoomy};
 ghost use Rattle.fj_parser.specs.GoalViews.{reader_of};
 ghost use Rattle.fj_parser.specs.Goals.{step_for, takes_name_for};
-ghost use Rattle.fj_parser.specs.Readers.{IsReached, SettlesEach};
+ghost use Rattle.fj_machine.specs.Readers.{IsReached, SettlesEach};
 ghost use Rattle.fj_parser.specs.Waiting.{waiting_places, waiting_roles, WaitedWithin};
 ghost use Rattle.fj_tally.specs.Views.{tally_seen};
 ghost use Rattle.fj_symbols.specs.Views.{is_read, symbol_seen};
 
 use crate::goal::Goal;
-use crate::machine::Machine;
 use crate::part::Part;
 use crate::settle::settle_waiting;
 use crate::waiting::{Refusal, Waiting};
 use cfj_model::FaultKind;
+use fj_machine::Machine;
 use fj_symbols::Symbol;
 use fj_tally::Tally;
 use std::alloc::{AllocError, Global};

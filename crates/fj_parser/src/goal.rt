@@ -4,12 +4,11 @@ ghost use Rattle.std.specs.Prelude.{◌≡◌, true, IfOk, is_some};
 ghost use Rattle.cfj_words.specs.Tokens.{Id};
 ghost use Rattle.fj_parser.specs.Goals.{step_for, takes_name_for};
 ghost use Rattle.fj_parser.specs.GoalViews.{Does, GoesFor};
-ghost use Rattle.fj_parser.specs.MachineViews.{machine_seen, names_fit_in, IsRoomy};
+ghost use Rattle.fj_machine.specs.MachineViews.{machine_seen, names_fit_in, IsRoomy};
 ghost use Rattle.fj_symbols.specs.Views.{is_read, symbol_seen};
 
-use crate::machine::Machine;
-use crate::mode::Mode;
 use crate::passage::{self, Passage};
+use fj_machine::{Machine, Mode};
 use fj_symbols::Symbol;
 use std::alloc::{AllocError, Global};
 

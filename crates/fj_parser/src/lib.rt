@@ -25,29 +25,19 @@
 #![tactic(auto)]
 
 mod accept;
-mod assigns;
 mod class_text;
 mod constructor_text;
-mod ctors;
 mod expr_text;
 mod goal;
-mod heads;
-mod machine;
 mod member_text;
-mod members;
-mod methods;
-mod mode;
 mod model_text;
 mod name_text;
-mod names;
 mod only;
-mod params;
 mod parser;
 mod part;
 mod passage;
 mod reading;
 mod results;
-mod role;
 mod settle;
 mod waiting;
 mod want;

@@ -4,7 +4,7 @@ ghost use Rattle.std.specs.Prelude.{◌≡◌, ℕ, ◌≤◌, length, IfOk, Err
 ghost use Rattle.cfj_model.specs.Faults.{IsFirstFault, IsTextOf, projects};
 ghost use Rattle.cfj_model.specs.ProductLines.{ProductLine};
 ghost use Rattle.fj_parser.specs.Answers.{IsReadAs, IsRefusedAs};
-ghost use Rattle.fj_parser.specs.Reading.{of_parts};
+ghost use Rattle.fj_machine.specs.Machine.{of_parts};
 
 use crate::goal::Goal;
 use crate::part::Part;

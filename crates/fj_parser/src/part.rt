@@ -5,9 +5,8 @@ ghost use Rattle.cfj_words.specs.Names.{is_name};
 ghost use Rattle.cfj_model.specs.ProductLines.{are_distinct, most_features};
 
 use crate::goal::Goal;
-use crate::machine::{Machine, NO_NAME};
-use crate::mode::Mode;
 use cfj_model::{FeatureModel, Name};
+use fj_machine::{Machine, Mode, NO_NAME};
 use fj_symbols::Features;
 use fj_tally::Tally;
 use std::alloc::{AllocError, Global};
@@ -38,8 +37,8 @@ impl<'a> Part<'a> {
     ghost use Rattle.cfj_model.specs.Roles.{nothing};
     ghost use Rattle.fj_parser.specs.GoalViews.{met_of, IsPart};
     ghost use Rattle.fj_parser.specs.Goals.{start_for};
-    ghost use Rattle.fj_parser.specs.Machine.{behind, unnamed};
-    ghost use Rattle.fj_parser.specs.MachineViews.{machine_seen};
+    ghost use Rattle.fj_machine.specs.Machine.{behind, unnamed};
+    ghost use Rattle.fj_machine.specs.MachineViews.{machine_seen};
     ghost use Rattle.fj_tally.specs.Views.{tally_seen};
 
     /// What stands without a feature model.

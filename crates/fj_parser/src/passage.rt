@@ -3,11 +3,10 @@
 ghost use Rattle.std.specs.Prelude.{◌≡◌};
 ghost use Rattle.fj_parser.specs.declared.goal.Goal.TheVariants as goal;
 ghost use Rattle.fj_parser.specs.GoalViews.{Does, DoesIn};
-ghost use Rattle.fj_parser.specs.MachineViews.{machine_seen};
+ghost use Rattle.fj_machine.specs.MachineViews.{machine_seen};
 ghost use Rattle.fj_symbols.specs.Views.{symbol_seen};
 
-use crate::machine::Machine;
-use crate::mode::Mode;
+use fj_machine::{Machine, Mode};
 use fj_symbols::Symbol;
 
 /// What a token does where a part of a project is read by itself.

@@ -2,12 +2,12 @@
 
 ghost use Rattle.std.specs.Prelude.{◌≡◌, true};
 ghost use Rattle.cfj_words.specs.Names.{is_name};
-ghost use Rattle.fj_parser.specs.Machine as spec;
-ghost use Rattle.fj_parser.specs.MachineViews.{machine_seen};
-ghost use Rattle.fj_parser.specs.Reading.{of_parts};
+ghost use Rattle.fj_machine.specs.Machine as spec;
+ghost use Rattle.fj_machine.specs.MachineViews.{machine_seen};
+ghost use Rattle.fj_machine.specs.Machine.{of_parts};
 
-use crate::machine::Machine;
 use cfj_model::{Class, Constructor, FeatureModel, Field, Method};
+use fj_machine::Machine;
 use std::alloc::Global;
 
 /// The features, constraints and classes that are read.

@@ -1,8 +1,8 @@
 use Rattle.std.proofs.Common.{◌≡◌, Some, None, true, false, [], ◌∷◌, ◌++◌, ◌∙◌, ap, sym, subst}
 use Rattle.expression_reader.specs.Machine as expression
 use Rattle.fj_symbols.specs.Views.{is_identifier_role, role_seen, symbol_seen}
-use Rattle.fj_parser.specs.Machine.{pending, role, settles, waits}
-use Rattle.fj_parser.specs.MachineViews.{machine_seen}
+use Rattle.fj_machine.specs.Machine.{pending, role, settles, waits}
+use Rattle.fj_machine.specs.MachineViews.{machine_seen}
 use Rattle.fj_parser.specs.Waiting.{may_wait, waiting_left, waiting_roles, waiting_places}
 use Rattle.fj_parser.specs.declared.waiting.Waiting.TheVariants as waiting
 use Rattle.fj_tally.specs.Views.{tally_seen}

@@ -1,5 +1,5 @@
 use Rattle.fj_symbols.specs.Views.{symbol_seen}
-use Rattle.fj_parser.specs.MachineViews.{machine_seen}
+use Rattle.fj_machine.specs.MachineViews.{machine_seen}
 use Rattle.fj_parser.proofs.Named.{unnamed_fits, unnamed_symbol}
 use Rattle.fj_parser.proofs.accept.goes.Goals as goal
 

@@ -3,8 +3,8 @@ use Rattle.cfj_model.specs.Roles.{broken_by}
 use Rattle.fj_symbols.specs.Views.{is_identifier_role, role_seen, symbol_seen}
 use Rattle.cfj_model.specs.declared.fault.FaultKind.{FaultKind}
 use Rattle.cfj_model.specs.declared.fault.FaultKind.TheVariants as fault
-use Rattle.fj_parser.specs.Machine.{role}
-use Rattle.fj_parser.specs.MachineViews.{machine_seen}
+use Rattle.fj_machine.specs.Machine.{role}
+use Rattle.fj_machine.specs.MachineViews.{machine_seen}
 use Rattle.fj_tally.specs.Views.{tally_seen, Admits}
 use Rattle.fj_parser.proofs.Accepted.{own_broken, own_stuck, not_gone, cannot_go}
 use Rattle.fj_parser.proofs.Named.{names_fit, role_named}

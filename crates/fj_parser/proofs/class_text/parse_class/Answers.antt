@@ -1,6 +1,6 @@
 use Rattle.cfj_model.specs.Faults.{single_classes}
 use Rattle.fj_parser.specs.Goals.{reader_for}
-use Rattle.fj_parser.specs.Machine.{unnamed}
+use Rattle.fj_machine.specs.Machine.{unnamed}
 use Rattle.fj_parser.specs.declared.goal.Goal.TheVariants as reads
 use Rattle.fj_parser.proofs.ClassLaw.{class_laws}
 use Rattle.fj_parser.proofs.Exact.{only_read, only_told}

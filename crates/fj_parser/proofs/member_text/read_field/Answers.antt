@@ -5,8 +5,8 @@ use Rattle.cfj_model.specs.declared.member.Member.TheVariants as member
 use Rattle.cfj_model.specs.Faults.{IsTextOf}
 use Rattle.fj_parser.specs.Goals.{reader_for}
 use Rattle.fj_parser.specs.Languages.{single_fields}
-use Rattle.fj_parser.specs.Machine.{unnamed}
-use Rattle.fj_parser.specs.MachineViews.{machine_seen}
+use Rattle.fj_machine.specs.Machine.{unnamed}
+use Rattle.fj_machine.specs.MachineViews.{machine_seen}
 use Rattle.fj_parser.specs.Wanted.{standing_for}
 use Rattle.fj_parser.specs.declared.goal.Goal.TheVariants as reads
 use Rattle.fj_parser.proofs.FieldLaw.{field_laws}

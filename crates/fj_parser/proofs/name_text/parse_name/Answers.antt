@@ -1,7 +1,7 @@
 use Rattle.std.proofs.Common.{[]}
 use Rattle.fj_parser.specs.Languages.{names}
 use Rattle.fj_parser.specs.Goals.{reader_for}
-use Rattle.fj_parser.specs.Machine.{unnamed}
+use Rattle.fj_machine.specs.Machine.{unnamed}
 use Rattle.fj_parser.specs.declared.goal.Goal.TheVariants as reads
 use Rattle.fj_parser.proofs.NameLaw.{name_laws}
 use Rattle.fj_parser.proofs.Exact.{only_read, only_told}

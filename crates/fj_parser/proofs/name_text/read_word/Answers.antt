@@ -3,8 +3,8 @@ use Rattle.std.proofs.lemmas.Result.{err_from_is_err_and}
 use Rattle.cfj_model.specs.declared.fault.ParseFault.TheVariants.{At}
 use Rattle.cfj_model.specs.Faults.{IsTextOf}
 use Rattle.fj_parser.specs.Languages.{names}
-use Rattle.fj_parser.specs.Machine.{unnamed}
-use Rattle.fj_parser.specs.MachineViews.{machine_seen}
+use Rattle.fj_machine.specs.Machine.{unnamed}
+use Rattle.fj_machine.specs.MachineViews.{machine_seen}
 use Rattle.fj_parser.specs.declared.goal.Goal.TheVariants as reads
 use Rattle.fj_parser.proofs.NameLaw.{name_laws, name_stands}
 use Rattle.fj_parser.proofs.PartTexts.{part_settles, part_text, part_fault}

@@ -1,5 +1,5 @@
 use Rattle.cfj_model.specs.Faults.{projects}
-use Rattle.fj_parser.specs.Machine.{reader}
+use Rattle.fj_machine.specs.Machine.{reader}
 use Rattle.fj_parser.proofs.Exact.{only_read, only_told}
 use Rattle.fj_parser.proofs.Law.{laws}
 use Rattle.fj_parser.proofs.parser.parse_project.Goals as goal

@@ -6,13 +6,13 @@ use Rattle.fj_lexer.specs.Lexing.{Gives}
 use Rattle.cfj_model.specs.declared.fault.ParseFault.TheVariants.{At}
 use Rattle.cfj_model.specs.declared.fault.FaultKind.{FaultKind}
 use Rattle.cfj_words.specs.Tokens.{End}
-use Rattle.fj_parser.specs.MachineViews.{machine_seen}
+use Rattle.fj_machine.specs.MachineViews.{machine_seen}
 use Rattle.fj_tally.specs.Views.{tally_seen}
 use Rattle.fj_symbols.specs.Views.{symbol_seen}
 use Rattle.fj_parser.specs.Accepting.{IsToldAt, IsTold}
 use Rattle.fj_parser.specs.Ending.{IsStopped}
 use Rattle.fj_parser.specs.GoalViews.{met_of, reader_of}
-use Rattle.fj_parser.specs.Machine.{pending}
+use Rattle.fj_machine.specs.Machine.{pending}
 use Rattle.fj_parser.specs.Waiting.{waiting_places, waiting_roles}
 use Rattle.fj_parser.specs.declared.part.Part.{Part}
 use Rattle.fj_parser.proofs.LexedTokens.{end_given}

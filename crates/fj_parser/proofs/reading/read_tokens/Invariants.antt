@@ -1,8 +1,8 @@
 use Rattle.std.proofs.Common.{◌≡◌, length}
 use Rattle.fj_parser.specs.Counting.{Counted}
-use Rattle.fj_parser.specs.Machine.{pending}
+use Rattle.fj_machine.specs.Machine.{pending}
 use Rattle.fj_parser.specs.GoalViews.{met_of, reader_of}
-use Rattle.fj_parser.specs.MachineViews.{machine_seen}
+use Rattle.fj_machine.specs.MachineViews.{machine_seen}
 use Rattle.fj_parser.specs.Reading.{IsPlaced}
 use Rattle.fj_parser.specs.Waiting.{waiting_places, waiting_roles}
 use Rattle.fj_tally.specs.Views.{tally_seen}

@@ -19,14 +19,13 @@ use Rattle.formula_reader.specs.Machine as formula
 use Rattle.expression_reader.specs.Machine as expression
 use Rattle.expression_reader.specs.declared.roles.Settling.{Settling}
 use Rattle.expression_reader.specs.declared.roles.Settling.TheVariants.{Stays}
-use Rattle.fj_parser.specs.Readers.{Reader, Run, run_of}
-use Rattle.fj_parser.specs.Reading.{of_parts}
-use Rattle.fj_parser.specs.declared.mode.Owner.{Owner}
-use Rattle.fj_parser.specs.declared.mode.Owner.TheVariants as owner
-use Rattle.fj_parser.specs.declared.mode.Node.{Node}
-use Rattle.fj_parser.specs.declared.mode.Node.TheVariants as node
-use Rattle.fj_parser.specs.declared.mode.Mode.{Mode}
-use Rattle.fj_parser.specs.declared.mode.Mode.TheVariants.{Begin, AfterFeatures, AfterFeature, AfterFeatureComma, Start, InConstraint, BetweenClasses, AfterAt, AfterMark, AfterMarkedType, AfterClass, AfterClassName, AfterExtends, AfterParent, InMembers, AfterType, AfterFieldName, InParams, AfterParamComma, AfterParamType, AfterParam, AfterParams, InBody, AfterSuper, InSends, AfterSendComma, AfterSend, AfterSends, InAssigns, AfterThis, AfterThisDot, AfterAssigned, AfterEquals, AfterSecondName, InMethods, AfterResult, AfterMethodName, InMethodBody, InExpression, AfterBody, AtEnd}
+use Rattle.fj_machine.specs.Readers.{Reader, Run, run_of}
+use Rattle.fj_machine.specs.declared.mode.Owner.{Owner}
+use Rattle.fj_machine.specs.declared.mode.Owner.TheVariants as owner
+use Rattle.fj_machine.specs.declared.mode.Node.{Node}
+use Rattle.fj_machine.specs.declared.mode.Node.TheVariants as node
+use Rattle.fj_machine.specs.declared.mode.Mode.{Mode}
+use Rattle.fj_machine.specs.declared.mode.Mode.TheVariants.{Begin, AfterFeatures, AfterFeature, AfterFeatureComma, Start, InConstraint, BetweenClasses, AfterAt, AfterMark, AfterMarkedType, AfterClass, AfterClassName, AfterExtends, AfterParent, InMembers, AfterType, AfterFieldName, InParams, AfterParamComma, AfterParamType, AfterParam, AfterParams, InBody, AfterSuper, InSends, AfterSendComma, AfterSend, AfterSends, InAssigns, AfterThis, AfterThisDot, AfterAssigned, AfterEquals, AfterSecondName, InMethods, AfterResult, AfterMethodName, InMethodBody, InExpression, AfterBody, AtEnd}
 
 -- what stands for a name that isn't in hand
 abbrev pub unnamed : List ℕ
@@ -119,6 +118,17 @@ field_of s = record { alt = 0; colors = s.colors; of = s.of; name = s.last }
 
 abbrev pub with_field : State → State
 with_field s = record s { mode = InMembers; fields = s.fields ++ field_of s ∷ []; colors = 0; of = unnamed; last = unnamed }
+
+-- the head of a member was a field's
+abbrev pub with_single_field : State → State
+with_single_field s =
+    record s {
+      mode = InMethods;
+      fields = record { alt = 0; colors = s.method_colors; of = s.result_type; name = s.method } ∷ [];
+      method_colors = 0;
+      result_type = unnamed;
+      method = unnamed;
+    }
 
 -- a parameter of the type in hand
 abbrev pub with_param : Owner → State → List ℕ → State
@@ -252,6 +262,10 @@ step_in InMethodBody s ReturnWord = to InExpression s
 step_in InExpression s t = in_expression s (expression.step s.features s.expression t)
 step_in AfterBody s CloseBrace = to InMethods s
 step_in _ s t = None
+
+-- the product line with these features, constraints and classes
+abbrev pub of_parts : List (List ℕ) → List Formula → List Class → ProductLine
+of_parts features constraints classes = record { model = record { features = features; constraints = constraints }; classes = classes }
 
 -- what a state stands for
 abbrev pub stands_for : State → ProductLine

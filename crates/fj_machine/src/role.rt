@@ -1,7 +1,7 @@
 //! The roles of tokens outside of formulas and expressions.
 
 ghost use Rattle.std.specs.Prelude.{◌≡◌};
-ghost use Rattle.fj_parser.specs.Machine.{name_role, token_role};
+ghost use Rattle.fj_machine.specs.Machine.{name_role, token_role};
 ghost use Rattle.fj_symbols.specs.Views.{role_seen, symbol_seen};
 
 use crate::mode::{Mode, Node, Owner};

@@ -2,9 +2,8 @@
 
 ghost use Rattle.std.specs.Prelude.{◌≡◌, ◌∷◌, [], ◌++◌, true, IfOk, OnOk};
 ghost use Rattle.cfj_words.specs.Tokens.{OpenParen};
-ghost use Rattle.fj_parser.specs.Goals.{with_single_field};
-ghost use Rattle.fj_parser.specs.Machine as spec;
-ghost use Rattle.fj_parser.specs.MachineViews.{machine_seen, GoesIn};
+ghost use Rattle.fj_machine.specs.Machine as spec;
+ghost use Rattle.fj_machine.specs.MachineViews.{machine_seen, GoesIn};
 ghost use Rattle.fj_symbols.specs.Views.{symbol_seen, is_name_token};
 
 use crate::machine::{Machine, NO_NAME, no_ctor};
@@ -128,8 +127,8 @@ impl<'a> Machine<'a> {
     }
 
     /// The member in hand is a field, and no other member is read.
-    pub(crate) fn close_single_field(&mut self, alloc: Global) -> Result<(), AllocError>
-        ensures { OnOk result (machine_seen self.new ≡ with_single_field (machine_seen self.old)) }
+    pub fn close_single_field(&mut self, alloc: Global) -> Result<(), AllocError>
+        ensures { OnOk result (machine_seen self.new ≡ spec.with_single_field (machine_seen self.old)) }
     {
         let (of, name) = both_names(alloc, self.result_type, self.method)?;
         self.fields.clear();

@@ -1,7 +1,7 @@
 //! What was read last.
 
 ghost use Rattle.std.specs.Prelude.{◌≡◌};
-ghost use Rattle.fj_parser.specs.Machine.{takes_name};
+ghost use Rattle.fj_machine.specs.Machine.{takes_name};
 
 /// What parameters belong to.
 #[derive(Clone, Copy)]

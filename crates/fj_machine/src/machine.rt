@@ -3,7 +3,7 @@
 ghost use Rattle.std.specs.Prelude.{◌≡◌, ◌^◌, ◌<◌, true, IfOk, is_some, [], length};
 ghost use Rattle.cfj_words.specs.Names.{is_name};
 ghost use Rattle.cfj_words.specs.Tokens.{Id};
-ghost use Rattle.fj_parser.specs.Machine as spec;
+ghost use Rattle.fj_machine.specs.Machine as spec;
 
 use crate::heads::{CONSTRAINT_WORD, FEATURES_WORD};
 use crate::mode::{Mode, Node};
@@ -18,7 +18,7 @@ use std::alloc::{AllocError, Global};
 use std::mem;
 
 /// What stands for a name that isn't in hand.
-pub(crate) const NO_NAME: &str = "this";
+pub const NO_NAME: &str = "this";
 
 /// The constructor of a class that isn't in hand; no memory is taken.
 pub(crate) fn no_ctor(alloc: Global) -> Constructor
@@ -66,8 +66,8 @@ pub struct Machine<'a> {
 }
 
 impl<'a> Machine<'a> {
-    ghost use Rattle.fj_parser.specs.Reading.{of_parts};
-    ghost use Rattle.fj_parser.specs.MachineViews.{machine_seen, names_fit_in, Goes, GoesIn, IsRoomy};
+    ghost use Rattle.fj_machine.specs.Machine.{of_parts};
+    ghost use Rattle.fj_machine.specs.MachineViews.{machine_seen, names_fit_in, Goes, GoesIn, IsRoomy};
     ghost use Rattle.fj_symbols.specs.Views.{is_name_token, is_read, role_seen, symbol_seen};
 
     /// Before the first token; no memory is taken.

@@ -2,13 +2,13 @@
 -- The machine's own type, as the state that it stands for.
 use Rattle.std.specs.Prelude.{◌≡◌, ◌^◌, ◌<◌, ◌≤◌, Bool, true, false, length, Some, None}
 use Rattle.cfj_words.specs.Tokens.{Token}
-use Rattle.fj_parser.specs.declared.mode.Mode.{Mode}
-use Rattle.fj_parser.specs.declared.mode.Mode.TheVariants.{InExpression}
-use Rattle.fj_parser.specs.declared.machine.Machine.{Machine}
+use Rattle.fj_machine.specs.declared.mode.Mode.{Mode}
+use Rattle.fj_machine.specs.declared.mode.Mode.TheVariants.{InExpression}
+use Rattle.fj_machine.specs.declared.machine.Machine.{Machine}
 use Rattle.expression_reader.specs.Views as expression
 use Rattle.expression_reader.specs.Views.{reader_seen, settles_short}
 use Rattle.fj_symbols.specs.Views.{is_name_token}
-use Rattle.fj_parser.specs.Machine.{State, step_in}
+use Rattle.fj_machine.specs.Machine.{State, step_in}
 
 abbrev pub machine_seen : Machine → State
 machine_seen m =

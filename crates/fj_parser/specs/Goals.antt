@@ -7,7 +7,7 @@ use Rattle.cfj_model.specs.declared.class.Field.{Field}
 use Rattle.cfj_model.specs.declared.class.Method.{Method}
 use Rattle.cfj_words.specs.Tokens.{Token, Id, ClassWord, OpenParen, Semicolon, At, End}
 use Rattle.fj_machine.specs.Readers.{Reader}
-use Rattle.fj_machine.specs.Machine.{State, behind, start, step_in, emitted, pending, takes_name_in, to, unnamed}
+use Rattle.fj_machine.specs.Machine.{State, behind, start, step_in, emitted, pending, takes_name_in, to, with_single_field}
 use Rattle.fj_parser.specs.declared.goal.Goal.{Goal}
 use Rattle.fj_parser.specs.declared.goal.Goal.TheVariants as goal
 use Rattle.fj_machine.specs.declared.mode.Mode.{Mode}

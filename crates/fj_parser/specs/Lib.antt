@@ -6,9 +6,6 @@ pub mod GoalViews
 pub mod Goals
 pub mod Languages
 pub mod Laws
-pub mod Machine
-pub mod MachineViews
-pub mod Readers
 pub mod Reading
 pub mod Waiting
 pub mod Wanted

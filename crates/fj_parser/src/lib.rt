@@ -6,7 +6,7 @@
 //! # How it is proved
 //!
 //! `cfj_model/specs` says what a text of a language is, by concrete-syntax trees, and what the first fault of any other text is.
-//! `specs/Machine.antt` says how the machine goes on; each step of the code is proved equal to it. `proofs/Complete.antt` shows
+//! `specs/Machine.antt` of `fj_machine` says how the machine goes on; each step of its code is proved equal to it. `proofs/Complete.antt` shows
 //! that the text of every tree is read, in the tree's roles and to its value; `Sound.antt` and `Law.antt` that what is read begins
 //! the text of a tree, and that where the machine is stuck no text goes on; `Kept.antt` that what is read is what a project's type
 //! keeps. In between stands what holds of any language and any machine that reads it token by token, by the facts of

@@ -1,5 +1,3 @@
 mod BadNames
-mod Ending
 mod Inputs
-mod OfInput
-mod Refusals
+mod Runs

@@ -1,6 +1,6 @@
 use Rattle.std.proofs.Common.{length, take, ◌-◌, ◌≡◌, ◌≤◌}
 use Rattle.cide_io.specs.Known.{appended}
-use Rattle.cide_io.proofs.sinks.put_all.Given as goal
+use Rattle.cide_io.proofs.puts.put_all.Given as goal
 
 abbrev pub invariant-pieces : goal.invariant-pieces
 invariant-pieces g l = record {

@@ -2,7 +2,7 @@ use Rattle.std.proofs.Common.{◌≡◌, false, List, ℕ, ◌∷◌, ◌++◌, 
 use Rattle.cfj_model.specs.ProductLines.{has}
 use Rattle.feature_model.specs.NamedSelections.{IsFirstBad}
 use Rattle.cide_tool.proofs.BadNames.{first_of_parts}
-use Rattle.cide_tool.proofs.names.selection_of.Goals as goal
+use Rattle.cide_tool.proofs.names.read_names.Goals as goal
 
 pub returns-in-None-clause-fault : goal.returns-in-None-clause-fault
 returns-in-None-clause-fault c =

@@ -1,6 +1,6 @@
 use Rattle.std.proofs.Common.{◌∙◌, le_trans}
 use Rattle.cide_io.proofs.Pieces.{put_more, put_within}
-use Rattle.cide_io.proofs.sinks.put_all.Goals as goal
+use Rattle.cide_io.proofs.puts.put_all.Goals as goal
 
 pub pieces-preserved : goal.pieces-preserved
 pieces-preserved g c =

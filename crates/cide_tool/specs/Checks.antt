@@ -3,7 +3,7 @@ use Rattle.std.specs.Prelude.{◌≡◌, ℕ, ◌^◌, ◌≤◌, true, if◌the
 use Rattle.std.specs.List.{list_any}
 use Rattle.cfj_model.specs.ProductLines.{ProductLine}
 use Rattle.cfj_model.specs.Projection.{projected}
-use Rattle.cfj_model.specs.Selections.{Chosen}
+use Rattle.cfj_logic.specs.Selections.{Chosen}
 use Rattle.cfj_model.specs.Typing.{IsWellTyped}
 use Rattle.unit_facts.specs.Diagnostics.{IsChecked, IsValidFor, are_decided}
 use Rattle.unit_facts.specs.Findings.{is_broken}

@@ -2,8 +2,8 @@
 use Rattle.std.specs.Prelude.{ℕ, List, [], Option, Some, None, Result, Ok, Err}
 use Rattle.cfj_model.specs.declared.fault.FaultKind.{FaultKind}
 use Rattle.cfj_model.specs.ProductLines.{ProductLine}
-use Rattle.cfj_model.specs.Selections.{Chosen}
-use Rattle.cfj_model.specs.Validity.{IsValid, IsFirstFalse}
+use Rattle.cfj_logic.specs.Selections.{Chosen}
+use Rattle.cfj_logic.specs.Validity.{IsValid, IsFirstFalse}
 use Rattle.cide_io.specs.declared.faults.Failed.{Failed}
 use Rattle.cide_io.specs.Known.{Known}
 use Rattle.command_words.specs.Asked.{Asked}

@@ -5,7 +5,7 @@ ghost use Rattle.cide_io.specs.Known.{Known};
 ghost use Rattle.cide_io.specs.Changes.{Gains, OnlyReads};
 ghost use Rattle.command_words.specs.Asked.{Asked};
 ghost use Rattle.feature_model.specs.NamedSelections.{IsSpelled, IsFirstBad};
-ghost use Rattle.cfj_model.specs.Validity.{IsFirstFalse};
+ghost use Rattle.cfj_logic.specs.Validity.{IsFirstFalse};
 ghost use Rattle.cide_tool.specs.Lines.{bad_name, invalid_line, names_line};
 ghost use Rattle.cide_tool.specs.NamedParts.{named_parts};
 ghost use Rattle.cide_tool.specs.ProjectTexts.{StandsFor};

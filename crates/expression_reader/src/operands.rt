@@ -1,6 +1,6 @@
 ghost use Rattle.std.specs.Prelude.{◌≡◌, ◌+◌, ◌<◌, ◌^◌, true, IfOk};
-ghost use Rattle.cfj_model.specs.Names.{is_name};
-ghost use Rattle.cfj_model.specs.Tokens.{ThisWord};
+ghost use Rattle.cfj_words.specs.Names.{is_name};
+ghost use Rattle.cfj_words.specs.Tokens.{ThisWord};
 ghost use Rattle.cfj_model.specs.declared.expr.Expr.TheVariants as e;
 ghost use Rattle.expression_reader.specs.Machine as machine;
 ghost use Rattle.expression_reader.specs.Views.{is_short, moved, settles_short};

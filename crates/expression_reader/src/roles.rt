@@ -72,7 +72,7 @@ impl ExpressionReader {
             Symbol::Id(name) => self.name_role(name),
             Symbol::OpenParen => Role::Opens(self.depth() + 1),
             Symbol::This | Symbol::New | Symbol::Dot => Role::Node,
-            _ => Role::Plain,
+            _ => Role::Other,
         }
     }
 

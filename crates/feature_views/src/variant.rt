@@ -51,7 +51,7 @@ fn classes(
     let mut kept = Vec::new(alloc);
     'classes: for place in 0..project.class_count() {
         let class = project.class(place);
-        if selection.includes(class.colors) {
+        if class.colors.is_kept_by(selection) {
             kept.push(class_of(alloc, class, selection)?)?;
         }
     }

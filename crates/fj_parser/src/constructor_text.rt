@@ -1,7 +1,7 @@
 ghost use Rattle.std.specs.Prelude.{◌≡◌, ℕ, true, nat_le, length, IfOk, Err};
 ghost use Rattle.cfj_model.specs.declared.class.Constructor.{Constructor};
 ghost use Rattle.cfj_model.specs.Faults.{IsFirstFault, IsTextOf};
-ghost use Rattle.cfj_model.specs.Names.{is_identifier};
+ghost use Rattle.cfj_words.specs.Names.{is_identifier};
 ghost use Rattle.cfj_model.specs.ProductLines.{are_distinct, most_features};
 ghost use Rattle.fj_parser.specs.Answers.{IsReadAs, IsRefusedAs};
 ghost use Rattle.fj_parser.specs.Languages.{constructors};

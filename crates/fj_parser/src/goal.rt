@@ -1,5 +1,5 @@
 ghost use Rattle.std.specs.Prelude.{◌≡◌, true, IfOk, is_some};
-ghost use Rattle.cfj_model.specs.Tokens.{Id};
+ghost use Rattle.cfj_words.specs.Tokens.{Id};
 ghost use Rattle.fj_parser.specs.Goals.{step_for, takes_name_for};
 ghost use Rattle.fj_parser.specs.GoalViews.{Does, GoesFor};
 ghost use Rattle.fj_parser.specs.MachineViews.{machine_seen, names_fit_in, IsRoomy};

@@ -1,6 +1,6 @@
 ghost use Rattle.std.specs.Prelude.{◌≡◌, ◌^◌, ◌<◌, true, IfOk, is_some, [], length};
-ghost use Rattle.cfj_model.specs.Names.{is_name};
-ghost use Rattle.cfj_model.specs.Tokens.{Id};
+ghost use Rattle.cfj_words.specs.Names.{is_name};
+ghost use Rattle.cfj_words.specs.Tokens.{Id};
 ghost use Rattle.fj_parser.specs.Machine as spec;
 
 use crate::heads::{CONSTRAINT_WORD, FEATURES_WORD};

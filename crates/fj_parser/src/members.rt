@@ -1,5 +1,5 @@
 ghost use Rattle.std.specs.Prelude.{◌≡◌, ◌∷◌, [], ◌++◌, true, IfOk, OnOk};
-ghost use Rattle.cfj_model.specs.Tokens.{OpenParen};
+ghost use Rattle.cfj_words.specs.Tokens.{OpenParen};
 ghost use Rattle.fj_parser.specs.Goals.{with_single_field};
 ghost use Rattle.fj_parser.specs.Machine as spec;
 ghost use Rattle.fj_parser.specs.MachineViews.{machine_seen, GoesIn};

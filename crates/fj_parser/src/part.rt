@@ -1,5 +1,5 @@
 ghost use Rattle.std.specs.Prelude.{◌≡◌, true, nat_le, [], length, IfOk};
-ghost use Rattle.cfj_model.specs.Names.{is_name};
+ghost use Rattle.cfj_words.specs.Names.{is_name};
 ghost use Rattle.cfj_model.specs.ProductLines.{are_distinct, most_features};
 
 use crate::goal::Goal;

@@ -30,6 +30,6 @@ pub fn role_of<'a>(mode: Mode, symbol: Symbol<'a>) -> Role<'a>
 {
     match symbol {
         Symbol::Id(name) => name_role(mode, name),
-        _ => Role::Plain,
+        _ => Role::Other,
     }
 }

@@ -19,7 +19,7 @@ impl<'a> Showing<'a> {
     {
         match self {
             Showing::Marked(_) => true,
-            Showing::Selected(selection) => selection.includes(colors),
+            Showing::Selected(selection) => colors.is_kept_by(selection),
         }
     }
 

@@ -37,5 +37,5 @@ pub enum Role<'a> {
     /// The own token of another node of an expression: `this`, `new`, or the dot of an access or a call.
     Node,
     /// Any other token.
-    Plain,
+    Other,
 }

@@ -26,7 +26,7 @@ impl<'a> Tally<'a> {
     {
         match role {
             // Most tokens are these.
-            Role::Plain => Ok(true),
+            Role::Other => Ok(true),
             _ => self.admit_counted(role),
         }
     }
@@ -52,7 +52,7 @@ impl<'a> Tally<'a> {
             Role::Opens(depth) => Ok(self.admit_opens(depth)),
             Role::Casts(depth) => Ok(self.admit_cast(depth)),
             Role::Node => Ok(self.admit_node()),
-            Role::Plain => Ok(true),
+            Role::Other => Ok(true),
         }
     }
 

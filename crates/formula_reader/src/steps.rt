@@ -1,7 +1,7 @@
 ghost use Rattle.std.specs.Prelude.{◌≡◌, ◌≤◌, IfOk, length};
 ghost use Rattle.fj_symbols.specs.Views.{symbol_seen};
 ghost use Rattle.cfj_model.specs.FormulaGrammar as grammar;
-ghost use Rattle.cfj_model.specs.Tokens.{CloseParen, Semicolon};
+ghost use Rattle.cfj_words.specs.Tokens.{CloseParen, Semicolon};
 ghost use Rattle.formula_reader.specs.Machine as spec;
 ghost use Rattle.formula_reader.specs.Views.{reached};
 

@@ -2,7 +2,7 @@ ghost use Rattle.std.specs.Prelude.{◌≡◌, ◌↔◌, None, IfOk, map};
 ghost use Rattle.cfj_model.specs.Judging.{Breaks, first_breaking};
 ghost use Rattle.cfj_model.specs.ProductLines.{IsProject};
 ghost use Rattle.cfj_model.specs.Typing.{IsWellTyped};
-ghost use Rattle.cfj_model.specs.UnitClauses.{Has};
+ghost use Rattle.cfj_words.specs.Lists.{Has};
 ghost use Rattle.cfj_model.specs.declared.site.Rule.{Rule};
 ghost use Rattle.cfj_model.specs.declared.site.Site.{Site};
 ghost use Rattle.plain_fj.specs.Breaking.{breaking, told};

@@ -4,10 +4,10 @@ use Rattle.std.specs.List.{list_all}
 use Rattle.cfj_model.specs.Judging.{Pair, Breaks, pairs_of}
 use Rattle.cfj_model.specs.ProductLines.{ProductLine}
 use Rattle.cfj_model.specs.Projection.{projected}
-use Rattle.cfj_model.specs.Selections.{Chosen, IsEarlier, is_subset}
-use Rattle.cfj_model.specs.Sides.{Sides, empty_clause, is_empty, is_over, is_within}
-use Rattle.cfj_model.specs.UnitClauses.{Has}
-use Rattle.cfj_model.specs.Validity.{IsValid}
+use Rattle.cfj_logic.specs.Selections.{Chosen, IsEarlier, is_subset}
+use Rattle.cfj_logic.specs.Sides.{Sides, empty_clause, is_empty, is_over, is_within}
+use Rattle.cfj_words.specs.Lists.{Has}
+use Rattle.cfj_logic.specs.Validity.{IsValid}
 use Rattle.unit_facts.specs.Findings.{is_broken}
 use Rattle.unit_facts.specs.declared.entry.Entry.{Entry}
 use Rattle.unit_facts.specs.declared.entry.Entry.TheVariants as entry

@@ -3,7 +3,7 @@ use Rattle.std.specs.Prelude.{◌≡◌, ℕ, ◌+◌, ◌==◌, Bool, true, fal
 use Rattle.std.specs.List.{list_all}
 use Rattle.std.specs.Fmt.{decimal}
 use Rattle.cfj_model.specs.Sites.{site_text}
-use Rattle.cfj_model.specs.Selections.{Chosen, is_on}
+use Rattle.cfj_logic.specs.Selections.{Chosen, is_on}
 use Rattle.cfj_model.specs.declared.site.Rule.{Rule}
 use Rattle.cfj_model.specs.declared.site.Rule.TheVariants.{K1, K2, K3, K4, K5, K6, K7, K8, E1, E2, E3, E4, E5, E6, E7, E8}
 use Rattle.unit_facts.specs.declared.entry.Entry.{Entry}

@@ -3,8 +3,8 @@ use Rattle.std.specs.List.{list_all}
 use Rattle.std.proofs.lemmas.Bool.{and_from}
 use Rattle.cfj_model.specs.Judging.{Pair}
 use Rattle.cfj_model.specs.ProductLines.{ProductLine}
-use Rattle.cfj_model.specs.Selections.{Chosen}
-use Rattle.cfj_model.specs.Sides.{Sides}
+use Rattle.cfj_logic.specs.Selections.{Chosen}
+use Rattle.cfj_logic.specs.Sides.{Sides}
 use Rattle.unit_facts.specs.Diagnostics.{IsExact, IsRight, IsSpent, AreExact, is_decided_verdict}
 use Rattle.unit_facts.specs.Findings.{is_broken}
 use Rattle.unit_facts.specs.declared.entry.Entry.{Entry}

@@ -1,6 +1,6 @@
 use Rattle.std.proofs.Common.{◌≡◌, ℕ, true, List, length, slice_get, Some, refl, sym, ap, subst, ◌∙◌}
 use Rattle.std.proofs.lemmas.Option.{slice_get_read}
-use Rattle.cfj_model.specs.Names.{is_name}
+use Rattle.cfj_words.specs.Names.{is_name}
 use Rattle.cfj_model.specs.Roles.{broken_by, feature_name}
 use Rattle.fj_parser.proofs.PartFeatures.{feature_fits}
 use Rattle.fj_parser.proofs.part.Part.tally.Goals as goal

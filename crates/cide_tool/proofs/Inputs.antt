@@ -33,3 +33,8 @@ input_read old new (Err NoMemory) h = tt
 
 pub named_input_read : (input old new : Known) (r : Result (Vec ℕ Global) ReadAll) → old ≡ input → IsReadAll most_bytes old new r → IsInput input r
 named_input_read input old new r e h = subst (λ i. IsInput i r) e (input_read old new r h)
+
+-- the project's text, told by equals
+pub text_as : (inputs : List ℕ → Known) (name other text items : List ℕ) → IsProjectText (inputs name) items → other ≡ name → text ≡ items → IsProjectText (inputs other) text
+text_as inputs name other text items h named same =
+    subst (λ (n : List ℕ). IsProjectText (inputs n) text) (sym named) (subst (λ (t : List ℕ). IsProjectText (inputs name) t) (sym same) h)

@@ -78,17 +78,31 @@ fn invalid(alloc: Global, at: usize) -> Refusal
     }
 }
 
-/// The selection of a project's features that the names in a word spell.
+/// The selection of a project's features that the parts of a word name.
+fn selection_of_parts(
+    alloc: Global,
+    project: &Project,
+    parts: &[&str],
+) -> Result<Selection, Refusal>
+    ensures spelled { IfOk result (IsSpelled project.now.model.features (map (λ part. part.now) parts.now)) }
+    ensures refused { IfErr result (λ refusal. (inputs : List ℕ → Known) (name names : List ℕ)
+        → map (λ part. part.now) parts.now ≡ named_parts names → StandsFor (inputs name) project.now
+        → IsRefusal inputs ⊥ (Some (Asked.export name names)) refusal) }
+{
+    match read_names(alloc, project.model(), parts)? {
+        Ok(selection) => Ok(selection),
+        Err(fault) => Err(bad_name(alloc, parts, fault)),
+    }
+}
+
+/// The selection of a project's features that a word names.
 fn selection_of(alloc: Global, project: &Project, names: &str) -> Result<Selection, Refusal>
     ensures spelled { IfOk result (IsSpelled project.now.model.features (named_parts names.now)) }
     ensures refused { IfErr result (λ refusal. (inputs : List ℕ → Known) (name : List ℕ) → StandsFor (inputs name) project.now
         → IsRefusal inputs ⊥ (Some (Asked.export name names.now)) refusal) }
 {
     let parts = parts(alloc, names)?;
-    match read_names(alloc, project.model(), parts.as_slice())? {
-        Ok(selection) => Ok(selection),
-        Err(fault) => Err(bad_name(alloc, parts.as_slice(), fault)),
-    }
+    selection_of_parts(alloc, project, parts.as_slice())
 }
 
 /// Prints the variant that a project has under the selection that the names in a word spell.

@@ -1,3 +1,4 @@
 mod BadNames
+mod ExportFaults
 mod Inputs
 mod Runs

@@ -1,12 +1,11 @@
-use Rattle.std.proofs.Common.{[], Ok, Err, refl}
-use Rattle.cfj_logic.specs.Validity.{IsValid, IsFirstFalse}
-use Rattle.cide_io.specs.Changes.{Gains}
-use Rattle.cide_io.specs.declared.faults.Failed.{Failed}
+use Rattle.std.proofs.Common.{refl}
 use Rattle.cide_io.proofs.Gaining.{gains_nothing}
+use Rattle.cide_io.specs.Changes.{Gains}
 use Rattle.variant_export.specs.Exports.{variant_text}
 use Rattle.cide_tool.specs.Endings.{Ends, done}
 use Rattle.cide_tool.specs.declared.refusal.Refusal.TheVariants as refusal
 use Rattle.cide_tool.proofs.BadNames.{of_its_features}
+use Rattle.cide_tool.proofs.ExportFaults.{cut_of, false_of}
 use Rattle.cide_tool.proofs.Runs.{done_answers, passed_on, refusal_answers, write_refused}
 use Rattle.cide_tool.proofs.export.export_project.Goals as goal
 
@@ -29,14 +28,15 @@ pub returns-in-Err-InvalidSelection : goal.returns-in-Err-InvalidSelection
 returns-in-Err-InvalidSelection g c = λ inputs name stands.
     let line = c.args.project.now in
     let s = c.in_ok-selection.selection in
-    let h : IsFirstFalse line.model.constraints s c.in-Err-InvalidSelection.at × Gains g.O.Sink c.args.out.now c.export.new.sink [] (Ok tt) = c.in-Err-InvalidSelection.ensures in
-    refusal_answers h.1
-    (c.invalid.ensures inputs name c.args.names.now line s stands c.in_ok-selection.ensures.spelled h.0)
+    let why = c.in-Err-InvalidSelection in
+    let h = false_of line s (Gains g.O.Sink c.args.out.now c.export.new.sink) c.export.result why.field-0 why.at c.export.ensures why.is why.field-0-is in
+    refusal_answers h.1 (c.invalid.ensures inputs name c.args.names.now line s stands c.in_ok-selection.ensures.spelled h.0)
 
 pub returns-in-Err-WriteFault : goal.returns-in-Err-WriteFault
 returns-in-Err-WriteFault g c = λ inputs name stands.
     let line = c.args.project.now in
     let s = c.in_ok-selection.selection in
-    let h : IsValid line.model.constraints s × (fault : Failed) × Gains g.O.Sink c.args.out.now c.export.new.sink (variant_text line s) (Err fault) = c.in-Err-WriteFault.ensures in
-    write_refused (done 0 (variant_text line s)) h.1.0 refusal.WriteFault
-    (Ends.exported name c.args.names.now line s stands c.in_ok-selection.ensures.spelled h.0) h.1.1 refl
+    let why = c.in-Err-WriteFault in
+    let h = cut_of line s (Gains g.O.Sink c.args.out.now c.export.new.sink) c.export.result why.field-0 c.export.ensures why.is why.field-0-is in
+    write_refused (done 0 (variant_text line s)) h.1 refusal.WriteFault
+    (Ends.exported name c.args.names.now line s stands c.in_ok-selection.ensures.spelled h.0) h.2 refl

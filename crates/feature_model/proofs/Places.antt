@@ -15,9 +15,6 @@ name_at features name place e =
     let found = position-Some (λ f. bytes_eq f name) features place name e in
     slice_get_read features (length features) place name refl found.0 (sym ((bytes_eq-Decides (slice_index_or features place name) name).0 found.1))
 
-pub place_within : (features : List (List ℕ)) (name : List ℕ) (place : ℕ) → position (λ f. bytes_eq f name) features ≡ Some place → place < length features
-place_within features name place e = (position-Some (λ f. bytes_eq f name) features place name e).0
-
 pub name_nowhere : (features : List (List ℕ)) (name : List ℕ) → position (λ f. bytes_eq f name) features ≡ None → is_among features name ≡ false
 name_nowhere features name e = go (nat_lt place (length features)) refl
   where

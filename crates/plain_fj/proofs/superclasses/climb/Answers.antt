@@ -1,12 +1,12 @@
 use Rattle.std.proofs.Common.{◌≡◌, ◌+◌, ◌-◌, suc, length, arith, sym, ap}
 use Rattle.plain_fj.specs.ByName.{seen}
 use Rattle.plain_fj.proofs.Walking.{untaken_is, walk_ends, walk_out, walk_on, walk_begins, marked_none, seen_push, marked_more}
-use Rattle.plain_fj.proofs.superclasses.chain.Goals as goal
+use Rattle.plain_fj.proofs.superclasses.climb.Goals as goal
 
 pub up-init : goal.up-init
 up-init c = record {
   walked = walk_begins c.args.classes.now c.args.name.now (length c.args.classes.now - 0) (seen c.new-found.result.items) (omega arith) (ap seen c.new-found.ensures.items);
-  marked = marked_none c.new-taken.result.entries (seen c.new-found.result.items) c.new-taken.ensures.empty (ap seen c.new-found.ensures.items);
+  marked = marked_none c.args.taken.now.entries (seen c.new-found.result.items) c.requires (ap seen c.new-found.ensures.items);
 }
 
 pub returns-in-None : goal.returns-in-None

@@ -1,7 +1,7 @@
 use Rattle.std.proofs.Common.{◌-◌, length}
 use Rattle.plain_fj.specs.ByName.{seen}
 use Rattle.plain_fj.proofs.Walking.{IsWalked, AreMarked}
-use Rattle.plain_fj.proofs.superclasses.chain.Given as goal
+use Rattle.plain_fj.proofs.superclasses.climb.Given as goal
 
 abbrev pub invariant-up : goal.invariant-up
 invariant-up l = record {

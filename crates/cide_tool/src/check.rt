@@ -1,3 +1,5 @@
+//! The command `check`.
+
 ghost use Rattle.std.specs.Prelude.{◌≡◌, ℕ, ◌≤◌, List, length, Some, IfOk, string_bytes};
 ghost use Rattle.std.specs.List.{list_all, list_any};
 ghost use Rattle.cfj_model.specs.Faults.{IsTextOf, projects};

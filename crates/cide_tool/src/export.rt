@@ -1,3 +1,5 @@
+//! The command `export`.
+
 ghost use Rattle.std.specs.Prelude.{◌≡◌, ℕ, ◌≤◌, List, length, map, Some, IfOk, string_bytes};
 ghost use Rattle.cfj_model.specs.Faults.{IsTextOf, projects};
 ghost use Rattle.cide_io.specs.Faults.{Rose};

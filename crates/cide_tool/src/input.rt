@@ -1,3 +1,5 @@
+//! The text of a project, read from a room.
+
 ghost use Rattle.std.specs.Prelude.{◌≡◌, ℕ, ◌≤◌, List, Err};
 ghost use Rattle.cide_io.specs.Faults.{Rose};
 ghost use Rattle.cide_tool.specs.Outcomes.{IsInput};

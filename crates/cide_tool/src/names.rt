@@ -1,3 +1,5 @@
+//! The features that a list of texts names.
+
 ghost use Rattle.std.specs.Prelude.{◌≡◌, ℕ, ◌≤◌, List, ◌∷◌, ◌++◌, true, false, length, map, IfOk, IfErr};
 ghost use Rattle.std.specs.List.{list_all};
 ghost use Rattle.cfj_words.specs.Names.{is_among, is_short_identifier};

@@ -1,3 +1,5 @@
+//! What a run comes to, with its status and its line.
+
 ghost use Rattle.std.specs.Prelude.{◌≡◌, ◌≤◌};
 ghost use Rattle.cide_tool.specs.Lines.{IsSaid};
 ghost use Rattle.cide_tool.specs.Outcomes.{status_of, line_of, IsReported};

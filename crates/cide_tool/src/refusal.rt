@@ -1,3 +1,5 @@
+//! Why a command isn't done.
+
 ghost use Rattle.std.specs.Prelude.{◌≡◌, Some, IfOk, string_bytes};
 ghost use Rattle.cfj_model.specs.Faults.{IsFirstFault, projects};
 ghost use Rattle.cide_tool.specs.Lines.{refusal_line};

@@ -1,3 +1,5 @@
+//! A run, from its words to its status.
+
 ghost use Rattle.std.specs.Prelude.{◌≡◌, ℕ, ◌≤◌, ◌<◌, ◌⊎◌, List, None, map, true, string_bytes};
 ghost use Rattle.cide_io.specs.Faults.{Rose};
 ghost use Rattle.command_words.specs.Asked.{asked};

@@ -1,3 +1,5 @@
+//! The variant of a valid selection, printed.
+
 ghost use Rattle.std.specs.Prelude.{◌≡◌, ◌≤◌, length, Err};
 ghost use Rattle.cide_io.specs.Faults.{Rose};
 ghost use Rattle.variant_export.specs.Exports.{IsExport};

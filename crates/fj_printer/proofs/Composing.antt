@@ -1,5 +1,5 @@
 -- How what two calls add is what one adds.
-use Rattle.std.proofs.Common.{subst, OnOk, IsErr, ◌≡◌, refl, sym, ap, ◌∙◌, ℕ, ◌<◌, ◌≤◌, List, [], ◌++◌, length, take, drop, Result, Ok, Err, Some, None, length-append, append-nil, arith}
+use Rattle.std.proofs.Common.{subst, OnOk, IsErr, ◌≡◌, refl, sym, ap, ◌∙◌, ℕ, ◌≤◌, List, [], ◌++◌, length, take, drop, Result, Ok, Err, Some, None, length-append, append-nil, arith}
 use Rattle.std.proofs.lemmas.List.{append_assoc, take-append-drop}
 use Rattle.std.proofs.lemmas.Result.{IfOk-from_err}
 use Rattle.cide_io.specs.declared.faults.Failed.{Failed}

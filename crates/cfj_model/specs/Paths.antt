@@ -1,3 +1,4 @@
+-- No public contract cites this: it serves the proofs.
 -- How a path is read: a candidate that cuts the text at its marks. It counts only where its site prints the text.
 use Rattle.std.specs.Prelude.{◌≡◌, ℕ, ◌^◌, ◌&&◌, ◌==◌, nat_lt, Option, Some, None, option_map, option_and_then, List, [], ◌∷◌, length, codes, if◌then◌else◌}
 use Rattle.std.specs.Str.{IsUtf8, all_ascii_digits, bytes_eq}

@@ -1,6 +1,6 @@
 -- What a project is, and what its type keeps of it.
 use Rattle.std.specs.Prelude.{◌≡◌, ℕ, ◌+◌, Bool, true, not, ◌&&◌, ◌==◌, nat_le, List, [], ◌∷◌, ◌++◌, length, map, codes, sum_by}
-use Rattle.std.specs.List.{list_any, list_all}
+use Rattle.std.specs.List.{list_all}
 use Rattle.std.specs.Str.{bytes_eq}
 use Rattle.cfj_words.specs.Names.{is_among, is_short_identifier}
 use Rattle.cfj_model.specs.Expressions.{are_known, is_bare, is_named, nest, node_count, slots}

@@ -1,3 +1,5 @@
+//! Whole runs of `check`.
+
 mod alternatives;
 mod budgets;
 mod findings;

@@ -1,3 +1,5 @@
+//! The trait of sinks, and putting a whole piece.
+
 ghost use Rattle.std.specs.Prelude.{◌≡◌, ℕ, ◌<◌, ◌≤◌, length, IfOk};
 ghost use Rattle.cide_io.specs.Faults.{HasCause};
 ghost use Rattle.cide_io.specs.Known.{Known, IsPut};

@@ -5,8 +5,7 @@ use Rattle.cfj_model.specs.ProductLines.{ProductLine}
 use Rattle.cfj_model.specs.Projection.{projected}
 use Rattle.cfj_logic.specs.Selections.{Chosen}
 use Rattle.cfj_model.specs.Typing.{IsWellTyped}
-use Rattle.unit_facts.specs.Diagnostics.{IsChecked, IsValidFor, are_decided}
-use Rattle.unit_facts.specs.Findings.{is_broken}
+use Rattle.unit_facts.specs.Diagnostics.{IsChecked, IsValidFor, are_decided, is_broken}
 use Rattle.unit_facts.specs.declared.entry.Entry.{Entry}
 use Rattle.unit_facts.specs.declared.entry.Verdict.{Verdict}
 

@@ -190,8 +190,8 @@ depth s = open_in s.mode (open_frames s.frames)
 -- the roles of the tokens that wait, as a bracket's
 abbrev pub pending_in : Mode → ℕ → List Role
 pending_in Paren d = opens (d + 1) ∷ []
-pending_in (ParenName w) d = opens (d + 1) ∷ (var_name w ∷ [])
-pending_in (ParenClosed w) d = opens (d + 1) ∷ (var_name w ∷ (other_token ∷ []))
+pending_in (ParenName w) d = opens (d + 1) ∷ var_name w ∷ []
+pending_in (ParenClosed w) d = opens (d + 1) ∷ var_name w ∷ other_token ∷ []
 pending_in _ d = []
 
 abbrev pub pending : State → List Role

@@ -1,3 +1,5 @@
+//! Where an expression begins: names, `this`, `new`, brackets and casts.
+
 ghost use Rattle.std.specs.Prelude.{◌≡◌, ◌+◌, ◌<◌, ◌^◌, true, IfOk};
 ghost use Rattle.cfj_words.specs.Names.{is_name};
 ghost use Rattle.cfj_words.specs.Tokens.{ThisWord};
@@ -16,7 +18,6 @@ use cfj_model::{Expr, Name};
 use fj_symbols::{Symbol, name_of};
 use std::alloc::{AllocError, Global};
 
-/// Where an expression begins: names, `this`, `new`, brackets and casts.
 impl ExpressionReader {
     pub(crate) fn begin(
         &mut self,

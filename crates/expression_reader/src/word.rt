@@ -1,3 +1,5 @@
+//! Identifiers whose roles wait.
+
 ghost use Rattle.std.specs.Prelude.{◌≡◌, true, IfOk, IsTrue};
 ghost use Rattle.cfj_words.specs.Names.{is_identifier};
 ghost use Rattle.expression_reader.specs.Views.{is_short};

@@ -1,3 +1,5 @@
+//! The selection that names spell.
+
 ghost use Rattle.std.specs.Prelude.{◌≡◌, ◌≤◌, true, false, Some, length, slice_get, IfOk, IfErr, IfSome, IfNone, position};
 ghost use Rattle.std.specs.Str.{bytes_eq};
 ghost use Rattle.cfj_model.specs.ProductLines.{are_distinct};

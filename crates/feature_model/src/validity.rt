@@ -1,3 +1,5 @@
+//! Whether each constraint is true under a selection.
+
 ghost use Rattle.std.specs.Prelude.{◌≡◌, true, length, IfErr, OnOk};
 ghost use Rattle.std.specs.List.{list_all};
 ghost use Rattle.cfj_logic.specs.Formulas.{is_over, truth};

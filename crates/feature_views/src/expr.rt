@@ -1,3 +1,5 @@
+//! The variant of an expression.
+
 ghost use Rattle.std.specs.Prelude.{◌≡◌, IfOk};
 ghost use Rattle.feature_views.specs.Selected as spec;
 

@@ -1,3 +1,5 @@
+//! Nodes in lists, of which a variant keeps those that are present.
+
 ghost use Rattle.std.specs.Prelude.{◌≡◌, ℕ, IfOk};
 ghost use Rattle.cfj_logic.specs.Selections.{Chosen};
 ghost use Rattle.feature_views.specs.Selected.{selected_nodes};

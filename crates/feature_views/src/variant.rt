@@ -1,3 +1,5 @@
+//! The variant of a project.
+
 ghost use Rattle.std.specs.Prelude.{◌≡◌, [], IfOk, length};
 ghost use Rattle.cfj_model.specs.ProductLines.{IsPlain, IsProject};
 ghost use Rattle.cfj_model.specs.Projection.{projected};

@@ -1,3 +1,5 @@
+//! One token at the front of a text: a word or a punctuation text.
+
 ghost use Rattle.std.specs.Prelude.{◌≡◌, ◌∷◌, ◌++◌, false, MatchOption, length};
 ghost use Rattle.std.specs.Str.{chars, IsUtf8};
 ghost use Rattle.cfj_words.specs.Names as names;

@@ -1,3 +1,5 @@
+//! The next token of a lexer.
+
 ghost use Rattle.std.specs.Prelude.{◌≡◌, ◌+◌, ◌-◌, ◌<◌, ◌≤◌, length};
 ghost use Rattle.std.specs.Str.{chars};
 ghost use Rattle.cfj_words.specs.Lexemes.{next_lexeme};

@@ -1,3 +1,5 @@
+//! Blanks and comments, which stand between tokens.
+
 ghost use Rattle.std.specs.Prelude.{◌≡◌, ◌≤◌, length, MatchOption, MatchResult};
 ghost use Rattle.std.specs.Str.{chars, IsUtf8};
 ghost use Rattle.cfj_words.specs.Lexemes as spec;

@@ -79,7 +79,7 @@ spell_member (a_method m) = spell_method m
 -- Of a member by itself only the next token tells which it is. Where no other was met, a field's name breaks what a method's
 -- breaks, so that its role may be the same.
 abbrev pub roles_member : MemberTree → List Role → List Role
-roles_member (a_field d) rest = roles_marks d.marks (used_name d.of ∷ (method_name d.name ∷ (other_token ∷ rest)))
+roles_member (a_field d) rest = roles_marks d.marks (used_name d.of ∷ method_name d.name ∷ other_token ∷ rest)
 roles_member (a_method m) rest = roles_method m rest
 
 abbrev pub value_member : List (List ℕ) → MemberTree → Member

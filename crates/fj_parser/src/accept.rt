@@ -1,3 +1,5 @@
+//! Takes one token in: what waits is settled, its fault is found, and the machine goes on.
+
 ghost use Rattle.std.specs.Prelude.{◌≡◌, ◌&&◌, if◌then◌else◌, [], ◌∷◌, true, false, None, IfOk, is_some};
 ghost use Rattle.cfj_words.specs.Tokens.{is_reserved_word};
 ghost use Rattle.expression_reader.specs.Machine.{settled};

@@ -1,3 +1,5 @@
+//! The tokens whose roles wait.
+
 ghost use Rattle.std.specs.Prelude.{◌≡◌, true};
 ghost use Rattle.cfj_words.specs.Names.{is_identifier};
 

@@ -1,5 +1,5 @@
 -- How what two calls add is what one adds.
-use Rattle.std.proofs.Common.{subst, OnOk, IsErr, ◌≡◌, refl, sym, ap, ◌∙◌, ℕ, ◌<◌, ◌≤◌, List, [], ◌++◌, length, take, drop, Result, Ok, Err, Some, None, length-append, append-nil, arith}
+use Rattle.std.proofs.Common.{subst, OnOk, IsErr, ◌≡◌, refl, sym, ap, ◌∙◌, ℕ, ◌≤◌, List, [], ◌++◌, length, take, drop, Result, Ok, Err, Some, None, length-append, append-nil, arith}
 use Rattle.std.proofs.lemmas.List.{append_assoc, take-append-drop}
 use Rattle.std.proofs.lemmas.Result.{IfOk-from_err}
 use Rattle.cide_io.specs.declared.faults.Failed.{Failed}
@@ -75,14 +75,6 @@ gained_nothing : (known : Known) → known ≡ appended known []
 gained_nothing None = refl
 gained_nothing (Some bytes) = ap Some (sym (append-nil bytes))
 
--- nothing is done
-pub adds_nothing : (a : Outlet) (u : Unit {0}) → Carries a a [] (Ok u)
-adds_nothing a u = record {
-  taken = record { sent = []; split = append-nil a.pending; gained = gained_nothing a.held };
-  named = refl;
-  cause = record { later = omega arith; cause = tt };
-}
-
 -- the front of what waits goes to the sink
 pub adds_sent : (a b : Outlet) (n : ℕ) → b.held ≡ appended a.held (take n a.pending) → b.pending ≡ drop n a.pending → b.name ≡ a.name → HasCause {T = ℕ} {E = Failed} a.faults b.faults (Ok n) → Carries a b [] (Ok tt)
 adds_sent a b n gained left named cause = record {
@@ -93,20 +85,6 @@ adds_sent a b n gained left named cause = record {
   };
   named = named;
   cause = record { later = cause.later; cause = tt };
-}
-
--- the sink takes nothing of what waits
-pub adds_refused : (a b : Outlet) (e : Failed) → 0 < length a.pending → b.held ≡ a.held → b.name ≡ a.name → HasCause {T = ℕ} {E = Failed} a.faults b.faults (Err e) → Carries a b [] (Err e)
-adds_refused a b e waits held named cause = record {
-  taken = record {
-    front = [];
-    back = a.pending;
-    proper = waits;
-    split = append-nil a.pending;
-    gained = held ∙ gained_nothing a.held;
-  };
-  named = named;
-  cause = record { later = cause.later; cause = cause.cause };
 }
 
 -- after one more part all parts so far are added

@@ -1,3 +1,5 @@
+//! Constraints, with the fewest brackets.
+
 ghost use Rattle.std.specs.Prelude.{◌≡◌, ℕ, List, true, length};
 ghost use Rattle.std.specs.List.{list_all};
 ghost use Rattle.cfj_logic.specs.Formulas.{is_over};

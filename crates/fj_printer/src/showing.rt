@@ -1,3 +1,5 @@
+//! Which nodes are printed, and whether with their marks.
+
 ghost use Rattle.std.specs.Prelude.{◌≡◌};
 ghost use Rattle.fj_printer.specs.Shown.{names, shows};
 

@@ -1,3 +1,5 @@
+//! The features of a project, with their numbers.
+
 ghost use Rattle.std.specs.Prelude.{◌≡◌, ◌<◌, [], ◌∷◌, ◌++◌, true, IfSome, OnOk, length, position};
 ghost use Rattle.std.specs.Str.{bytes_eq};
 ghost use Rattle.cfj_words.specs.Names.{is_name};

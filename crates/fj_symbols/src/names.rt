@@ -1,3 +1,5 @@
+//! Names from texts that are known to be names.
+
 ghost use Rattle.std.specs.Prelude.{◌≡◌, true, IfOk};
 ghost use Rattle.cfj_words.specs.Names.{is_name};
 

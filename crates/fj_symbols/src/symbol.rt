@@ -1,3 +1,5 @@
+//! Tokens as the grammar knows them.
+
 ghost use Rattle.std.specs.Prelude.{◌≡◌, ◌∷◌, [], true};
 ghost use Rattle.cfj_words.specs.Names.{is_reserved};
 ghost use Rattle.cfj_words.specs.Tokens.{is_reserved_word, mark_token, word_token};

@@ -1,3 +1,5 @@
+//! What a token adds to what was met.
+
 ghost use Rattle.std.specs.Prelude.{◌≡◌, ◌<◌, None, IfOk, OnOk};
 ghost use Rattle.cfj_model.specs.Roles as spec;
 ghost use Rattle.fj_tally.specs.Views.{tally_seen, with_declaration, Admits};

@@ -1,3 +1,5 @@
+//! Names that were met, in the order in which they came.
+
 ghost use Rattle.std.specs.Prelude.{◌≡◌, [], ◌∷◌, ◌++◌, if◌then◌else◌, not, IfOk, length};
 ghost use Rattle.cfj_words.specs.Names.{is_among};
 

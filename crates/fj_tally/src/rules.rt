@@ -1,3 +1,5 @@
+//! The rules and the limits that a token can break.
+
 ghost use Rattle.std.specs.Prelude.{◌≡◌, ◌∷◌, [], Some, true, not, is_some, IfOk};
 ghost use Rattle.cfj_words.specs.Names.{is_among, is_identifier, is_name};
 ghost use Rattle.cfj_model.specs.Roles as spec;
@@ -59,7 +61,6 @@ pub(crate) fn is_deep(depth: usize) -> bool
     depth > MOST_NEST
 }
 
-/// The rules and limits that a token can break.
 impl<'a> Tally<'a> {
     /// The fault of a token in this role that breaks a rule or a limit.
     ///

@@ -1,3 +1,5 @@
+//! The reader of a formula.
+
 ghost use Rattle.std.specs.Prelude.{◌≡◌, ◌≤◌, IfOk, length};
 ghost use Rattle.fj_symbols.specs.Views.{role_seen, symbol_seen};
 ghost use Rattle.formula_reader.specs.Machine as spec;

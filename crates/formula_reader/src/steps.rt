@@ -1,8 +1,13 @@
-ghost use Rattle.std.specs.Prelude.{◌≡◌, ◌≤◌, IfOk, length};
+//! What each token does.
+
+ghost use Rattle.std.specs.Prelude.{◌≡◌, ◌≤◌, ◌∷◌, None, IfOk, length};
+ghost use Rattle.std.specs.Bool.{OnTrue, OnFalse};
 ghost use Rattle.fj_symbols.specs.Views.{symbol_seen};
 ghost use Rattle.cfj_model.specs.FormulaGrammar as grammar;
 ghost use Rattle.cfj_words.specs.Tokens.{CloseParen, Semicolon};
+ghost use Rattle.cfj_logic.specs.declared.formula.Formula.{Formula};
 ghost use Rattle.formula_reader.specs.Machine as spec;
+ghost use Rattle.formula_reader.specs.declared.frame.Frame.TheVariants as frame;
 ghost use Rattle.formula_reader.specs.Views.{reached};
 
 use crate::frame::{AND_LEVEL, Frame, IFF_LEVEL, IMPLIES_LEVEL, OR_LEVEL};
@@ -12,6 +17,7 @@ use crate::stack::Stack;
 use cfj_model::Formula;
 use fj_symbols::{Features, Symbol};
 use std::alloc::{AllocError, Global};
+use std::mem;
 
 /// The feature of this name, or a formula in its place.
 fn feature_named(features: &Features<'_>, name: &str) -> Formula
@@ -100,7 +106,11 @@ fn after(
         }
         Symbol::CloseParen => close(alloc, frames, operand),
         Symbol::Semicolon => end(alloc, frames, operand),
-        _ => Ok(None),
+        _ => {
+            // By a call, which the check counts as one step; left to the end of the arm, it drops part by part.
+            mem::drop(operand);
+            Ok(None)
+        }
     }
 }
 
@@ -113,9 +123,25 @@ fn close(
     ensures { IfOk result (λ mode. reached frames.new mode ≡ spec.after frames.old operand CloseParen) }
 {
     let whole = reduce(alloc, frames, operand, IFF_LEVEL)?;
-    match frames.pop() {
-        Some(Frame::InBracket) => Ok(Some(Mode::After(whole))),
-        _ => Ok(None),
+    if pop_bracket(frames) {
+        return Ok(Some(Mode::After(whole)));
+    }
+    // By a call, which the check counts as one step.
+    mem::drop(whole);
+    Ok(None)
+}
+
+/// Takes the bracket on top, where one is.
+fn pop_bracket(frames: &mut Stack<Frame>) -> bool
+    ensures open { OnTrue result (frames.old ≡ frame.InBracket ∷ frames.new) }
+    ensures other { OnFalse result ((y : Formula) → spec.closed frames.old y ≡ None) }
+{
+    match frames.items().last() {
+        Some(Frame::InBracket) => {
+            mem::drop(frames.pop());
+            true
+        }
+        _ => false,
     }
 }
 
@@ -130,6 +156,10 @@ fn end(
     let whole = reduce(alloc, frames, operand, IFF_LEVEL)?;
     match frames.pop() {
         None => Ok(Some(Mode::Done(whole))),
-        Some(_) => Ok(None),
+        Some(frame) => {
+            // By a call, which the check counts as one step.
+            mem::drop(frame);
+            Ok(None)
+        }
     }
 }

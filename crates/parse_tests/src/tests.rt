@@ -1,3 +1,5 @@
+//! First faults of texts, and what texts stand for.
+
 mod bodies;
 mod copies;
 mod entries;

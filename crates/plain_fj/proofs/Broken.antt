@@ -41,10 +41,6 @@ adds_none a = sym (append-nil (map told a))
 pub adds_as : (a b : List Break) (js ks : List RuleAt) → broken js ≡ broken ks → Adds a b js → Adds a b ks
 adds_as a b js ks same adds = adds ∙ ap (λ z. map told a ++ z) same
 
--- one break, where the rule breaks
-pub adds_one : (a b : List Break) (x : Break) (js : List RuleAt) → b ≡ a ++ x ∷ [] → broken js ≡ told x ∷ [] → Adds a b js
-adds_one a b x js pushed is = ap (map told) pushed ∙ map-append told a (x ∷ []) ∙ ap (λ z. map told a ++ z) (sym is)
-
 -- what is added where there is memory for it
 pub then_added : {X E : Type 0} (a b c : List Break) (js ks : List RuleAt) (r : Result X E) → Adds a b js → OnOk r (Adds b c ks) → OnOk r (Adds a c (js ++ ks))
 then_added a b c js ks (Ok x) first next = adds_then a b c js ks first next

@@ -1,3 +1,5 @@
+//! The pairs that break in one variant, looked up by site and rule.
+
 ghost use Rattle.std.specs.Prelude.{◌≡◌, ◌↔◌, IsTrue, IfOk};
 ghost use Rattle.cfj_words.specs.Lists.{Has};
 ghost use Rattle.plain_judge.specs.PairParts.{IsSetOf, pair_parts, seen_pair};

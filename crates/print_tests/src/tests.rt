@@ -1,3 +1,5 @@
+//! What is printed of projects, classes and variants.
+
 ghost use Rattle.std.specs.Prelude.{◌≡◌, length};
 
 use cfj_model::{Project, Selection};

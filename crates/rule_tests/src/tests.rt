@@ -1,3 +1,5 @@
+//! The first rule that breaks in a project.
+
 mod declarations;
 mod expressions;
 mod look_ups;

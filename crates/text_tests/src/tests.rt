@@ -1,3 +1,5 @@
+//! Whole runs of `export`.
+
 mod constraints;
 mod limits;
 mod outside;

@@ -8,7 +8,6 @@ use Rattle.cfj_logic.specs.Selections.{Chosen, IsEarlier, is_subset}
 use Rattle.cfj_logic.specs.Sides.{Sides, empty_clause, is_empty, is_over, is_within}
 use Rattle.cfj_words.specs.Lists.{Has}
 use Rattle.cfj_logic.specs.Validity.{IsValid}
-use Rattle.unit_facts.specs.Findings.{is_broken}
 use Rattle.unit_facts.specs.declared.entry.Entry.{Entry}
 use Rattle.unit_facts.specs.declared.entry.Entry.TheVariants as entry
 use Rattle.unit_facts.specs.declared.entry.Verdict.{Verdict}
@@ -94,6 +93,11 @@ pub record IsChecked (line : ProductLine) (budget : ℕ) (v : Verdict) (es : Lis
   pub entries : AreExact line budget (pairs_of line.classes) es
 
 -- ---- what is decided
+
+-- the pair breaks under some valid selection; else the entry is undecided
+abbrev pub is_broken : Entry → Bool
+is_broken (entry.Broken site rule selection) = true
+is_broken (entry.Undecided site rule log) = false
 
 abbrev pub is_decided_verdict : Verdict → Bool
 is_decided_verdict (verdict.Unknown log) = false

@@ -1,3 +1,5 @@
+//! What words ask.
+
 use command_words::{Asked, WordsFault, read_words};
 use std::alloc::{AllocError, Global};
 use std::test::Fail;

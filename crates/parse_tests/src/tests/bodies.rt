@@ -1,3 +1,5 @@
+//! Bodies of methods.
+
 use super::{Row, first_wrong};
 use std::test::Fail;
 

@@ -1,3 +1,5 @@
+//! Copies of what was read.
+
 use super::project_of;
 use cfj_model::{Expr, Member, MemberName, Name, Project, read_site};
 use fj_parser::{Want, parse_class, parse_member};

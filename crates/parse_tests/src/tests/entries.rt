@@ -1,3 +1,5 @@
+//! Parts of projects by themselves.
+
 use super::{Row, project_of};
 use cfj_model::{Member, Name, ParseFault, Project};
 use fj_parser::{

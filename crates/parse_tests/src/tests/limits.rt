@@ -1,3 +1,5 @@
+//! Texts at a limit and past it.
+
 use super::{repeated, told};
 use std::alloc::{AllocError, Global};
 use std::test::Fail;

@@ -1,3 +1,5 @@
+//! Methods and their parameters.
+
 use super::{Row, first_wrong};
 use std::test::Fail;
 

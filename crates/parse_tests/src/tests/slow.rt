@@ -1,3 +1,5 @@
+//! A slow reading that tries all that the grammar allows.
+
 use super::told;
 use fj_lexer::{LexFault, Lexer, TokenKind};
 use std::alloc::{AllocError, Global};

@@ -1,3 +1,5 @@
+//! The rules of classes and their members.
+
 use super::{Row, first_wrong};
 use std::test::Fail;
 

@@ -1,3 +1,5 @@
+//! The rules of expressions.
+
 use super::{Row, told};
 use std::alloc::{AllocError, Global};
 use std::test::Fail;

@@ -1,3 +1,5 @@
+//! The rules in variants.
+
 use super::break_of;
 use cfj_model::{Project, Selection};
 use feature_views::project as projected;

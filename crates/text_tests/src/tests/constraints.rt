@@ -1,3 +1,5 @@
+//! Constraints of formulas, read and told.
+
 use super::{export, is_line, is_refused_behind, repeated};
 use std::alloc::AllocError;
 use std::test::Fail;

@@ -1,3 +1,5 @@
+//! Prints of projects that are read back.
+
 use super::{NO_FAULTS, export, is_line, run_over};
 use std::test::Fail;
 

@@ -5,8 +5,7 @@ use Rattle.cfj_model.specs.Judging.{Pair}
 use Rattle.cfj_model.specs.ProductLines.{ProductLine}
 use Rattle.cfj_logic.specs.Selections.{Chosen}
 use Rattle.cfj_logic.specs.Sides.{Sides}
-use Rattle.unit_facts.specs.Diagnostics.{IsExact, IsRight, IsSpent, AreExact, is_decided_verdict}
-use Rattle.unit_facts.specs.Findings.{is_broken}
+use Rattle.unit_facts.specs.Diagnostics.{IsExact, IsRight, IsSpent, AreExact, is_broken, is_decided_verdict}
 use Rattle.unit_facts.specs.declared.entry.Entry.{Entry}
 use Rattle.unit_facts.specs.declared.entry.Entry.TheVariants as entry
 use Rattle.unit_facts.specs.declared.entry.Verdict.{Verdict}

@@ -8,7 +8,8 @@ use Rattle.cide_io.specs.Known.{IsAdded}
 
 -- The sink gained a text: all of it, or, after a failure, a proper prefix of it. It kept its name, its count of faults didn't fall, and
 -- a failure comes only where that count rose.
-pub record Gains {K : Type 0} (k : sink.Ghosts K) (old new : K) (text : List ℕ) (result : Result Unit Failed) : Type 0 where
+pub record Gains {K : Type 0} (k : sink.Ghosts K) (old new : K) (text : List ℕ) (result : Result Unit Failed)
+    : Type 0 where
   pub added : IsAdded (k.held old) (k.held new) text result
   pub named : k.name new ≡ k.name old
   pub cause : HasCause (k.faults old) (k.faults new) result

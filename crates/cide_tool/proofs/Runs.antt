@@ -103,6 +103,13 @@ module _ {T E : Type 0} where
   pub err_is : (result : Result T E) (e : E) (P : E → Type 0) → result ≡ Err e → IfErr result P → P e
   err_is result e P is h = subst (λ (r : Result T E). IfErr r P) is h
 
+-- The refusal of an input that wasn't read is that of each command that reads it.
+pub unread_gives : {T : Type 0} (inputs : List ℕ → Known) (F : Type 0) (name : List ℕ) (fault : ReadAll) (result : Result T Refusal) → IsErrAnd result (λ r. r ≡ unread fault)
+    → IsInput (inputs name) (Err fault) → (fault ≡ ReadFault → F) → IfErr result (λ r. (asked : Asked) → project_of asked ≡ name → IsRefusal inputs F (Some asked) r)
+unread_gives inputs F name fault result h came fails =
+    err_gives result (λ r. r ≡ unread fault) (λ r. (asked : Asked) → project_of asked ≡ name → IsRefusal inputs F (Some asked) r) h
+    (λ r e. unread_refused inputs F name fault r e came fails)
+
 module _ (inputs : List ℕ → Known) (F : Type 0) (Puts : List ℕ → Result Unit Failed → Type 0) (asks : Option Asked) where
   pub err_answers : (result : Result ℕ Refusal) (P : Refusal → Type 0) → IsErrAnd result P → ((r : Refusal) → P r → IsAnswer inputs F Puts asks (Err r)) → IsAnswer inputs F Puts asks result
   err_answers (Ok status) P h f = elim h [ ]

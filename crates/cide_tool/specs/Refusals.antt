@@ -1,4 +1,5 @@
--- What a command answers, as the end that it comes to. No public contract cites this.
+-- No public contract cites this: it serves the proofs.
+-- What a command answers, as the end that it comes to.
 use Rattle.std.specs.Prelude.{Vec, ◌≡◌, ℕ, ◌≤◌, List, [], Option, Result, Ok, Err}
 use Rattle.std.specs.String.{string_bytes}
 use Rattle.std.specs.declared.alloc.Global.{Global}
@@ -56,7 +57,8 @@ abbrev pub IsRefusal : (List ℕ → Known) → Type 0 → Option Asked → Refu
 IsRefusal inputs ReadFails asks r = IsRun inputs ReadFails PutsNothing (λ line. line ≡ line_of r) asks (status_of r)
 
 -- A command's answer tells how the run ends: with a status and no line, or with a refusal.
-abbrev pub IsAnswer : (List ℕ → Known) → Type 0 → (List ℕ → Result Unit Failed → Type 0) → Option Asked → Result ℕ Refusal → Type 0
+abbrev pub IsAnswer : (List ℕ → Known) → Type 0 → (List ℕ → Result Unit Failed → Type 0) → Option Asked
+    → Result ℕ Refusal → Type 0
 IsAnswer inputs ReadFails Puts asks (Ok status) = IsRun inputs ReadFails Puts (λ line. line ≡ []) asks status
 IsAnswer inputs ReadFails Puts asks (Err r) = IsRun inputs ReadFails Puts (λ line. line ≡ line_of r) asks (status_of r)
 

@@ -78,6 +78,26 @@ fn findings_text(
     )
 }
 
+/// Puts out the text of what is found of a project, and gives the status that tells it.
+fn put_text<O: Sink>(
+    project: &Project,
+    budget: u32,
+    found: &Findings,
+    text: &str,
+    out: &mut O,
+) -> Result<u8, Refusal>
+    requires checked { IsChecked project.now budget found.now.verdict found.now.entries }
+    requires text { text.now ≡ findings project.now.model.features found.now.verdict found.now.entries }
+    ensures { (inputs : List ℕ → Known) (name : List ℕ) → StandsFor (inputs name) project.now
+        → IsAnswer inputs ⊥ (Gains O.Sink out.old out.new) (Some (Asked.check name budget)) result }
+{
+    // What holds of findings without entries, and of few features, rests on these laws.
+    clean_variants(project);
+    decides_few_features();
+    put_all(out, text.as_bytes())?;
+    Ok(status_of(&found.verdict, found.entries.slice()))
+}
+
 /// Puts out what is found of a project, and gives the status that tells it.
 fn put_findings<O: Sink>(
     alloc: Global,
@@ -90,12 +110,8 @@ fn put_findings<O: Sink>(
     ensures { (inputs : List ℕ → Known) (name : List ℕ) → StandsFor (inputs name) project.now
         → IsAnswer inputs ⊥ (Gains O.Sink out.old out.new) (Some (Asked.check name budget)) result }
 {
-    // What holds of findings without entries, and of few features, rests on these laws.
-    clean_variants(project);
-    decides_few_features();
     let text = findings_text(alloc, project, budget, found)?;
-    put_all(out, text.as_bytes())?;
-    Ok(status_of(&found.verdict, found.entries.slice()))
+    put_text(project, budget, found, text.as_str(), out)
 }
 
 /// Judges a project, and puts out what is found.

@@ -49,7 +49,8 @@ fn name_at<'a>(parts: &[&'a str], at: usize) -> &'a str
 /// The refusal of names of which one is bad. Without memory for the line there is none to say which.
 fn bad_name(alloc: Global, parts: &[&str], fault: NameFault) -> Refusal
     ensures { (inputs : List ℕ → Known) (name names : List ℕ) (line : _) → StandsFor (inputs name) line
-        → map (λ part. part.now) parts.now ≡ named_parts names → IsFirstBad line.model.features (named_parts names) fault
+        → map (λ part. part.now) parts.now ≡ named_parts names
+        → IsFirstBad line.model.features (named_parts names) fault
         → IsRefusal inputs ⊥ (Some (Asked.export name names)) result }
 {
     match names_line(alloc, parts, fault) {
@@ -98,8 +99,8 @@ fn selection_of_parts(
 /// The selection of a project's features that a word names.
 fn selection_of(alloc: Global, project: &Project, names: &str) -> Result<Selection, Refusal>
     ensures spelled { IfOk result (IsSpelled project.now.model.features (named_parts names.now)) }
-    ensures refused { IfErr result (λ refusal. (inputs : List ℕ → Known) (name : List ℕ) → StandsFor (inputs name) project.now
-        → IsRefusal inputs ⊥ (Some (Asked.export name names.now)) refusal) }
+    ensures refused { IfErr result (λ refusal. (inputs : List ℕ → Known) (name : List ℕ)
+        → StandsFor (inputs name) project.now → IsRefusal inputs ⊥ (Some (Asked.export name names.now)) refusal) }
 {
     let parts = parts(alloc, names)?;
     selection_of_parts(alloc, project, parts.as_slice())

@@ -82,7 +82,8 @@ fn print_classes<K: Sink>(
     sink: &mut K,
 ) -> Result<(), Failed>
     requires { length (names showing.now) ≤ 128 }
-    ensures { Gains K.Sink sink.old sink.new (texts (shown_class_text showing.now) (shown_classes showing.now project.now.classes)) result }
+    ensures { Gains K.Sink sink.old sink.new
+        (texts (shown_class_text showing.now) (shown_classes showing.now project.now.classes)) result }
 {
     let mut buffer = Buffer::new();
     classes(&mut buffer, sink, showing, project)?;

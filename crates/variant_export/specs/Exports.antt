@@ -18,4 +18,5 @@ variant_text line s = plain_printed (projected s line).classes
 abbrev pub IsExport : ProductLine → Chosen → (List ℕ → Result Unit Failed → Type 0) → Result Unit ExportFault → Type 0
 IsExport line s Puts (Ok u) = IsValid line.model.constraints s × Puts (variant_text line s) (Ok tt)
 IsExport line s Puts (Err (InvalidSelection at)) = IsFirstFalse line.model.constraints s at × Puts [] (Ok tt)
-IsExport line s Puts (Err WriteFault) = IsValid line.model.constraints s × (fault : Failed) × Puts (variant_text line s) (Err fault)
+IsExport line s Puts (Err WriteFault) =
+    IsValid line.model.constraints s × (fault : Failed) × Puts (variant_text line s) (Err fault)

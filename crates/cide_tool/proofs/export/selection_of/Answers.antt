@@ -10,4 +10,4 @@ returns-in_err-parts-clause-refused c =
 pub returns-clause-refused : goal.returns-clause-refused
 returns-clause-refused c =
     err_maps c.selection_of_parts.result _ _ c.selection_of_parts.ensures.refused (λ r h inputs name stands.
-      h inputs name c.args.names.now (rw c.as_slice.ensures.value c.in_ok-parts.ensures) stands)
+    h inputs name c.args.names.now (rw c.as_slice.ensures.value c.in_ok-parts.ensures) stands)

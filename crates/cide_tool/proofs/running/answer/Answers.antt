@@ -8,4 +8,4 @@ pub returns-in_err-project-clause-answer : goal.returns-in_err-project-clause-an
 returns-in_err-project-clause-answer g c =
     let fault = c.in_err-project.field-0.0 in
     err_answers _ _ _ _ c.from_residual.result (λ r. r ≡ unasked fault) c.from_residual.ensures.1 (λ r e.
-      refusal_answers (gains_nothing g.O.Sink c.args.out.now) (unasked_refused _ _ _ fault r e (λ k. c.in_err-project.ensures.none (ap Err k))))
+    refusal_answers (gains_nothing g.O.Sink c.args.out.now) (unasked_refused _ _ _ fault r e (λ k. c.in_err-project.ensures.none (ap Err k))))

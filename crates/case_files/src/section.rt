@@ -11,6 +11,13 @@ pub struct Section<'a> {
     pub content: &'a [&'a str],
 }
 
+/// A section of nothing.
+const NO_SECTION: Section<'static> = Section {
+    word: "",
+    rest: "",
+    content: &[],
+};
+
 /// Whether a line is content.
 fn is_content(line: &str) -> bool {
     matches!(
@@ -44,14 +51,15 @@ pub fn lines_of(alloc: Global, text: &str) -> Result<Vec<&str>, AllocError> {
         .collect(alloc)
 }
 
-/// Adds the section that a line begins, where it is no content or the first line.
-fn add_line<'a>(
+/// Adds the section that the first of these lines begins; none where that line is content, unless it is the first of all.
+fn add_section<'a>(
     sections: &mut Vec<Section<'a>>,
-    line: &'a str,
-    behind: &'a [&'a str],
+    lines: &'a [&'a str],
 ) -> Result<(), AllocError> {
-    if !is_content(line) || sections.is_empty() {
-        sections.push(section_at(line, behind))?;
+    if let Some((line, behind)) = lines.split_first() {
+        if !is_content(line) || sections.is_empty() {
+            sections.push(section_at(line, behind))?;
+        }
     }
     Ok(())
 }
@@ -62,10 +70,8 @@ pub fn sections_of<'a>(
     lines: &'a [&'a str],
 ) -> Result<Vec<Section<'a>>, AllocError> {
     let mut sections = Vec::new(alloc);
-    let mut rest = lines;
-    'lines: while let Some((line, behind)) = rest.split_first() {
-        add_line(&mut sections, line, behind)?;
-        rest = behind;
+    for at in 0..lines.len() {
+        add_section(&mut sections, &lines[at..])?;
     }
     Ok(sections)
 }
@@ -104,8 +110,6 @@ impl<'a> Case<'a> {
 
     /// The content of the first section with this word; nothing where there is none.
     pub fn content(&self, word: &str) -> &'a [&'a str] {
-        self.section(word)
-            .map(|section| section.content)
-            .unwrap_or(&[])
+        self.section(word).unwrap_or(NO_SECTION).content
     }
 }

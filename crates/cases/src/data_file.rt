@@ -83,16 +83,14 @@ fn run_sections<R: Print + AllocGlobal>(rt: &R, sections: &[Section<'_>]) -> io:
         println!(rt; "something stands in front of the first case")?;
         tally.failed = 1;
     }
-    let mut rest = sections;
-    while let Some((_, behind)) = rest.split_first() {
-        if let Some(case) = Case::at(rest) {
+    for at in 0..sections.len() {
+        if let Some(case) = Case::at(&sections[at..]) {
             if run_case(rt, case)? {
                 tally.passed = tally.passed.saturating_add(1);
             } else {
                 tally.failed = tally.failed.saturating_add(1);
             }
         }
-        rest = behind;
     }
     Ok(tally)
 }

@@ -1,16 +1,16 @@
 #!/usr/bin/env bash
-# Times the rules of Featherweight Java on the sample's variant of all features, at a quarter, half and the whole of 1,000 classes:
-# a program that reads the text, parses it and judges it, and beside it javac, which reads the same text and stops behind its
-# checks, before it makes classes. Each time is the best of so many runs: rules.sh [RUNS]. Where there is no javac, it says so and
-# times the first alone.
+# Times `cide check` on the sample's variant of all features, a project without features, at a quarter, half and the whole of 1,000
+# classes, and beside it javac, which reads the same text and stops behind its checks, before it makes classes. The check reads the
+# text, parses it and judges it by the rules of Featherweight Java. Each time is the best of so many runs: rules.sh [RUNS]. Where
+# there is no javac, it says so and times the check alone.
 # Ends with status 1 where something breaks in the sample, where the whole takes more than five times the quarter, or where it
 # takes longer than javac, of whose time its time for one empty class is taken away first.
 set -eu
 
 . "$(dirname "$(readlink -f "${BASH_SOURCE[0]}")")/timing.sh"
 
-crate=$top/crates/rule_bench
-program=$crate/out/rule_bench
+program=$top/crates/cide/out/cide
+clean=$'model valid []\nsummary broken 0 undecided 0'
 javac_checks=(javac -proc:none -XDshould-stop.ifNoError=FLOW -d "$work")
 
 # the time of javac for a text
@@ -22,9 +22,9 @@ javac_time() {
 measure() {
     local file=$work/Sample$1.java
     python3 "$top/bench/make_sample.py" "$1" --plain >"$file"
-    times[$1]=$(best_of "$program" "$file")
-    [ "$(cat "$work/written")" = "well typed" ] || check "nothing breaks in $1 classes" 1 0
-    printf '%5d classes, %7d bytes: the rules %7d us' "$1" "$(stat -c %s "$file")" "${times[$1]}"
+    times[$1]=$(best_of "$program" check "$file")
+    [ "$(cat "$work/written")" = "$clean" ] || check "nothing breaks in $1 classes" 1 0
+    printf '%5d classes, %7d bytes: check %7d us' "$1" "$(stat -c %s "$file")" "${times[$1]}"
     if [ -n "$start" ]; then
         javac_times[$1]=$(javac_time "$file")
         printf ', javac %8d us' "${javac_times[$1]}"
@@ -42,7 +42,7 @@ else
     echo "there is no javac here: no comparison"
 fi
 
-(cd "$crate" && rt run -- data/Shapes) >/dev/null
+"$top/cide" export "$top/examples/shapes.fj" . >/dev/null
 declare -A times javac_times
 for classes in 250 500 1000; do measure "$classes"; done
 check "the whole takes at most 5 times the quarter" "${times[1000]}" $((5 * times[250]))

@@ -14,7 +14,7 @@ use Rattle.std.proofs.lemmas.Str.{encodes-chars, IsUtf8-take, IsUtf8-drop, IsCha
 use Rattle.std.proofs.lemmas.Str.Parse.{IsNumeralModel, numerals_by_value, tells_all_ascii_digits, not_in_digits, parse_plain}
 use Rattle.std.proofs.lemmas.Str.Pattern.{NoCharPasses-char, IsSplitOnceResult, split_parts}
 use Rattle.unicode_ident.proofs.IdentLemmas.{is_xid_start-ascii, is_xid_continue-ascii}
-use Rattle.cfj_model.specs.Names.{starts_word, continues_word, is_word, is_identifier, is_reserved, is_short_identifier, is_name}
+use Rattle.cfj_words.specs.Names.{starts_word, continues_word, is_word, is_identifier, is_reserved, is_short_identifier, is_name}
 use Rattle.cfj_model.specs.Sites.{alt_text, member_text, site_text, IsPathName, IsPathNumber, IsPath}
 use Rattle.cfj_model.specs.Paths.{IsCut, cut, name_of, number_of, member_of, part_of, inside_of, candidate}
 use Rattle.cfj_model.specs.declared.site.Site.{Site}

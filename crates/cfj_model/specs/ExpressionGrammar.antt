@@ -5,8 +5,8 @@ use Rattle.cfj_model.specs.declared.expr.Arg.{Arg}
 use Rattle.cfj_model.specs.declared.expr.Expr.{Expr}
 use Rattle.cfj_model.specs.declared.expr.Expr.TheVariants as e
 use Rattle.cfj_model.specs.Marks.{spell_marks, roles_marks, colors_of}
-use Rattle.cfj_model.specs.Tokens.{Token, Id, NewWord, ThisWord, OpenParen, CloseParen, Comma, Dot}
-use Rattle.cfj_model.specs.Roles.{Role, casts, node, opens, plain, used_name, var_name}
+use Rattle.cfj_words.specs.Tokens.{Token, Id, NewWord, ThisWord, OpenParen, CloseParen, Comma, Dot}
+use Rattle.cfj_model.specs.Roles.{Role, casts, node, opens, other_token, used_name, var_name}
 
 mutual
   -- expr: cast, or chain; a cast is "(" id ")" expr
@@ -40,19 +40,19 @@ mutual
 -- the tokens of a tree, and what follows
 abbrev mutual
   pub spell_expr : ExprTree → List Token → List Token
-  spell_expr (cast c t) rest = OpenParen ∷ (Id c ∷ (CloseParen ∷ spell_expr t rest))
+  spell_expr (cast c t) rest = OpenParen ∷ Id c ∷ CloseParen ∷ spell_expr t rest
   spell_expr (chain s ss) rest = spell_start s (spell_steps ss rest)
 
   pub spell_start : StartTree → List Token → List Token
   spell_start (variable w) rest = Id w ∷ rest
   spell_start this_word rest = ThisWord ∷ rest
-  spell_start (made c xs) rest = NewWord ∷ (Id c ∷ (OpenParen ∷ spell_args xs (CloseParen ∷ rest)))
+  spell_start (made c xs) rest = NewWord ∷ Id c ∷ OpenParen ∷ spell_args xs (CloseParen ∷ rest)
   spell_start (bracket t) rest = OpenParen ∷ spell_expr t (CloseParen ∷ rest)
 
   pub spell_steps : StepsTree → List Token → List Token
   spell_steps stop rest = rest
-  spell_steps (get f ss) rest = Dot ∷ (Id f ∷ spell_steps ss rest)
-  spell_steps (call m xs ss) rest = Dot ∷ (Id m ∷ (OpenParen ∷ spell_args xs (CloseParen ∷ spell_steps ss rest)))
+  spell_steps (get f ss) rest = Dot ∷ Id f ∷ spell_steps ss rest
+  spell_steps (call m xs ss) rest = Dot ∷ Id m ∷ OpenParen ∷ spell_args xs (CloseParen ∷ spell_steps ss rest)
 
   pub spell_args : ArgsTree → List Token → List Token
   spell_args no_args rest = rest
@@ -66,19 +66,19 @@ abbrev mutual
 -- end of its operand.
 abbrev mutual
   pub roles_expr : ℕ → ExprTree → List Role → List Role
-  roles_expr d (cast c t) rest = casts (d + 1) ∷ (used_name c ∷ (plain ∷ roles_expr (d + 1) t rest))
+  roles_expr d (cast c t) rest = casts (d + 1) ∷ used_name c ∷ other_token ∷ roles_expr (d + 1) t rest
   roles_expr d (chain s ss) rest = roles_start d s (roles_steps d ss rest)
 
   pub roles_start : ℕ → StartTree → List Role → List Role
   roles_start d (variable w) rest = var_name w ∷ rest
   roles_start d this_word rest = node ∷ rest
-  roles_start d (made c xs) rest = node ∷ (used_name c ∷ (opens (d + 1) ∷ roles_args (d + 1) xs (plain ∷ rest)))
-  roles_start d (bracket t) rest = opens (d + 1) ∷ roles_expr (d + 1) t (plain ∷ rest)
+  roles_start d (made c xs) rest = node ∷ used_name c ∷ opens (d + 1) ∷ roles_args (d + 1) xs (other_token ∷ rest)
+  roles_start d (bracket t) rest = opens (d + 1) ∷ roles_expr (d + 1) t (other_token ∷ rest)
 
   pub roles_steps : ℕ → StepsTree → List Role → List Role
   roles_steps d stop rest = rest
-  roles_steps d (get f ss) rest = node ∷ (used_name f ∷ roles_steps d ss rest)
-  roles_steps d (call m xs ss) rest = node ∷ (used_name m ∷ (opens (d + 1) ∷ roles_args (d + 1) xs (plain ∷ roles_steps d ss rest)))
+  roles_steps d (get f ss) rest = node ∷ used_name f ∷ roles_steps d ss rest
+  roles_steps d (call m xs ss) rest = node ∷ used_name m ∷ opens (d + 1) ∷ roles_args (d + 1) xs (other_token ∷ roles_steps d ss rest)
 
   pub roles_args : ℕ → ArgsTree → List Role → List Role
   roles_args d no_args rest = rest
@@ -86,7 +86,7 @@ abbrev mutual
 
   pub roles_more_args : ℕ → MoreArgsTree → List Role → List Role
   roles_more_args d no_more rest = rest
-  roles_more_args d (next_arg ms t ts) rest = plain ∷ roles_marks ms (roles_expr d t (roles_more_args d ts rest))
+  roles_more_args d (next_arg ms t ts) rest = other_token ∷ roles_marks ms (roles_expr d t (roles_more_args d ts rest))
 
 -- An expression or arguments, and the next slot. A node takes its slot at its own token.
 abbrev pub Numbered : Type 0 → Type 0

@@ -1,7 +1,7 @@
 -- Expressions of Featherweight Java (Igarashi, Pierce, Wadler, TOPLAS 23(3), 2001) with marked arguments: what a body keeps.
 use Rattle.std.specs.Prelude.{ℕ, ◌+◌, Bool, true, false, ◌&&◌, ◌==◌, nat_lt, max, if◌then◌else◌, List, [], ◌∷◌, ◌++◌, flat_map, sum_by, ◌^◌}
 use Rattle.std.specs.List.{list_all}
-use Rattle.cfj_model.specs.Names.{is_name, is_short_identifier}
+use Rattle.cfj_words.specs.Names.{is_name, is_short_identifier}
 use Rattle.cfj_model.specs.declared.expr.Expr.{Expr}
 use Rattle.cfj_model.specs.declared.expr.Arg.{Arg-F}
 use Rattle.cfj_model.specs.declared.expr.Expr.TheOpen.{Expr-F}

@@ -3,14 +3,14 @@ use Rattle.std.specs.Prelude.{◌≡◌, ℕ, true, false, List, [], ◌∷◌, 
 use Rattle.std.specs.Str.{chars, IsUtf8, IsValidUpTo}
 use Rattle.cfj_model.specs.declared.fault.FaultKind.{FaultKind}
 use Rattle.cfj_model.specs.declared.fault.FaultKind.TheVariants.{BadChar, OpenComment, Unexpected, Reserved, NotUtf8}
-use Rattle.cfj_model.specs.Names.{is_identifier}
-use Rattle.cfj_model.specs.Lexemes.{Lexed, Found, AtEnd, NoToken, NoClose, next_lexeme}
-use Rattle.cfj_model.specs.Tokens.{Token, Id, End, Takes, token_seen, place_of, is_reserved_word}
+use Rattle.cfj_words.specs.Names.{is_identifier}
+use Rattle.cfj_words.specs.Lexemes.{Lexed, Found, AtEnd, NoToken, NoClose, next_lexeme}
+use Rattle.cfj_words.specs.Tokens.{Token, Id, End, Takes, token_seen, place_of, is_reserved_word}
 use Rattle.cfj_model.specs.ProductLines.{ProductLine}
 use Rattle.cfj_model.specs.declared.class.Class.{Class}
 use Rattle.cfj_model.specs.Grammar.{Tree, spell, value, ClassTree, spell_class, value_class}
 use Rattle.cfj_model.specs.TreeRoles.{roles, roles_class}
-use Rattle.cfj_model.specs.Roles.{Role, Tally, plain, nothing, tallied, broken_by, AreWithin, are_settled}
+use Rattle.cfj_model.specs.Roles.{Role, Tally, other_token, nothing, tallied, broken_by, AreWithin, are_settled}
 
 -- A language: its trees, the tokens that a tree spells, their roles, the value that a tree stands for, and what counts as met
 -- before a text begins.
@@ -52,7 +52,7 @@ pub record Begins {V : Type 0} (l : Language V) (front : List Token) (rs : List 
   pub more : List Token
   pub others : List Role
   pub text : l.spell tree (End ∷ []) ≡ front ++ more
-  pub in_roles : l.roles tree (plain ∷ []) ≡ rs ++ others
+  pub in_roles : l.roles tree (other_token ∷ []) ≡ rs ++ others
   pub each : length rs ≡ length front
 
 -- a text of the language can go on from here

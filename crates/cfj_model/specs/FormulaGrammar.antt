@@ -2,10 +2,10 @@
 -- roles of its tokens and the formula that it stands for.
 use Rattle.std.specs.Prelude.{ℕ, ◌+◌, List, ◌∷◌, position, Option, Some, None}
 use Rattle.std.specs.Str.{bytes_eq}
-use Rattle.cfj_model.specs.declared.formula.Formula.{Formula}
-use Rattle.cfj_model.specs.declared.formula.Formula.TheVariants as f
-use Rattle.cfj_model.specs.Tokens.{Token, Id, TrueWord, FalseWord, OpenParen, CloseParen, Bang, Ampersand, Bar, Arrow, DoubleArrow}
-use Rattle.cfj_model.specs.Roles.{Role, formula_name, formula_node, formula_opens, opens, plain}
+use Rattle.cfj_logic.specs.declared.formula.Formula.{Formula}
+use Rattle.cfj_logic.specs.declared.formula.Formula.TheVariants as f
+use Rattle.cfj_words.specs.Tokens.{Token, Id, TrueWord, FalseWord, OpenParen, CloseParen, Bang, Ampersand, Bar, Arrow, DoubleArrow}
+use Rattle.cfj_model.specs.Roles.{Role, formula_name, formula_node, formula_opens, opens, other_token}
 
 mutual
   -- iff: imp {"<->" imp}, to the left
@@ -85,7 +85,7 @@ abbrev mutual
   roles_unary d (named w) rest = formula_name w ∷ rest
   roles_unary d true_word rest = formula_node ∷ rest
   roles_unary d false_word rest = formula_node ∷ rest
-  roles_unary d (bracketed x) rest = opens (d + 1) ∷ roles_iff (d + 1) x (plain ∷ rest)
+  roles_unary d (bracketed x) rest = opens (d + 1) ∷ roles_iff (d + 1) x (other_token ∷ rest)
 
 -- a feature by its number; a name that isn't a feature stands for nothing, and for it any formula will do
 abbrev pub feature_at : Option ℕ → Formula

@@ -10,7 +10,7 @@ use Rattle.cfj_model.specs.ProductLines.{ProductLine}
 use Rattle.cfj_model.specs.ExpressionGrammar.{ExprTree, spell_expr, value_expr}
 use Rattle.cfj_model.specs.FormulaGrammar.{IffTree, spell_iff, value_iff}
 use Rattle.cfj_model.specs.Marks.{in_order, each_behind, separated, spell_marks, colors_of}
-use Rattle.cfj_model.specs.Tokens.{Token, Id, ClassWord, ExtendsWord, SuperWord, ThisWord, ReturnWord, OpenBrace, CloseBrace, OpenParen, CloseParen, Semicolon, Comma, Dot, Equals}
+use Rattle.cfj_words.specs.Tokens.{Token, Id, ClassWord, ExtendsWord, SuperWord, ThisWord, ReturnWord, OpenBrace, CloseBrace, OpenParen, CloseParen, Semicolon, Comma, Dot, Equals}
 
 -- marks, a type and a name: of a field, or of a parameter
 pub record Declared : Type 0 where
@@ -62,15 +62,15 @@ spell_name w rest = Id w ∷ rest
 -- ["features" id {"," id} ";"]
 abbrev pub spell_features : List (List ℕ) → List Token → List Token
 spell_features [] rest = rest
-spell_features (f ∷ fs) rest = Id features_word ∷ (Id f ∷ each_behind Comma spell_name fs (Semicolon ∷ rest))
+spell_features (f ∷ fs) rest = Id features_word ∷ Id f ∷ each_behind Comma spell_name fs (Semicolon ∷ rest)
 
 -- field: marks id id ";"
 abbrev pub spell_field : Declared → List Token → List Token
-spell_field d rest = spell_marks d.marks (Id d.of ∷ (Id d.name ∷ (Semicolon ∷ rest)))
+spell_field d rest = spell_marks d.marks (Id d.of ∷ Id d.name ∷ Semicolon ∷ rest)
 
 -- param: marks id id
 abbrev pub spell_param : Declared → List Token → List Token
-spell_param d rest = spell_marks d.marks (Id d.of ∷ (Id d.name ∷ rest))
+spell_param d rest = spell_marks d.marks (Id d.of ∷ Id d.name ∷ rest)
 
 -- sent: marks id
 abbrev pub spell_sent : Named → List Token → List Token
@@ -78,32 +78,32 @@ spell_sent s rest = spell_marks s.marks (Id s.name ∷ rest)
 
 -- assign: marks "this" "." id "=" id ";"
 abbrev pub spell_assign : Named → List Token → List Token
-spell_assign a rest = spell_marks a.marks (ThisWord ∷ (Dot ∷ (Id a.name ∷ (Equals ∷ (Id a.name ∷ (Semicolon ∷ rest))))))
+spell_assign a rest = spell_marks a.marks (ThisWord ∷ Dot ∷ Id a.name ∷ Equals ∷ Id a.name ∷ Semicolon ∷ rest)
 
 -- ctor: id "(" list(param) ")" "{" "super" "(" list(sent) ")" ";" {assign} "}"
 abbrev pub spell_ctor : ClassTree → List Token → List Token
 spell_ctor k rest =
     Id k.name
-    ∷ (OpenParen
+    ∷ OpenParen
     ∷ separated Comma spell_param k.params
     (CloseParen
-    ∷ (OpenBrace
-    ∷ (SuperWord
-    ∷ (OpenParen
+    ∷ OpenBrace
+    ∷ SuperWord
+    ∷ OpenParen
     ∷ separated Comma spell_sent k.sends
     (CloseParen
-    ∷ (Semicolon
-    ∷ in_order spell_assign k.assigns (CloseBrace ∷ rest))))))))
+    ∷ Semicolon
+    ∷ in_order spell_assign k.assigns (CloseBrace ∷ rest)))
 
 -- method: marks id id "(" list(param) ")" "{" "return" expr ";" "}"
 abbrev pub spell_method : MethodTree → List Token → List Token
 spell_method m rest =
     spell_marks m.marks
     (Id m.result
-    ∷ (Id m.name
-    ∷ (OpenParen
+    ∷ Id m.name
+    ∷ OpenParen
     ∷ separated Comma spell_param m.params
-    (CloseParen ∷ (OpenBrace ∷ (ReturnWord ∷ spell_expr m.body (Semicolon ∷ (CloseBrace ∷ rest))))))))
+    (CloseParen ∷ OpenBrace ∷ ReturnWord ∷ spell_expr m.body (Semicolon ∷ CloseBrace ∷ rest)))
 
 -- "constraint" iff ";"
 abbrev pub spell_constraint : IffTree → List Token → List Token
@@ -114,8 +114,8 @@ abbrev pub spell_class : ClassTree → List Token → List Token
 spell_class k rest =
     spell_marks k.marks
     (ClassWord
-    ∷ (Id k.name
-    ∷ (ExtendsWord ∷ (Id k.parent ∷ (OpenBrace ∷ in_order spell_field k.fields (spell_ctor k (in_order spell_method k.methods (CloseBrace ∷ rest))))))))
+    ∷ Id k.name
+    ∷ ExtendsWord ∷ Id k.parent ∷ OpenBrace ∷ in_order spell_field k.fields (spell_ctor k (in_order spell_method k.methods (CloseBrace ∷ rest))))
 
 -- project: ["features" id {"," id} ";"] {"constraint" iff ";"} {class}
 abbrev pub spell : Tree → List Token → List Token

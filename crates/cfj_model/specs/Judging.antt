@@ -1,10 +1,10 @@
 -- The rules of a project's nodes, each judged at its node: which pairs of a site and a rule there are, in order, and which break.
-use Rattle.std.specs.Prelude.{ℕ, Bool, true, false, not, ◌&&◌, ◌==◌, List, [], ◌∷◌, ◌++◌, length, map, flat_map, find, if◌then◌else◌, Option, Some, None, is_some, option_map}
+use Rattle.std.specs.Prelude.{ℕ, Bool, true, false, not, ◌&&◌, ◌==◌, nat_lt, List, [], ◌∷◌, ◌++◌, length, map, flat_map, find, if◌then◌else◌, Option, Some, None, is_some, option_map}
 use Rattle.std.specs.List.{list_any}
 use Rattle.std.specs.Str.{bytes_eq}
 use Rattle.cfj_model.specs.LookUps.{Table, all_fields, ancestors, chain, field_called, field_of, first_some, is_known, is_subtype, method_called, method_of}
 use Rattle.cfj_model.specs.Typing.{Environment, param_types, this}
-use Rattle.cfj_model.specs.UnitClauses.{Has}
+use Rattle.cfj_words.specs.Lists.{Has}
 use Rattle.cfj_model.specs.declared.class.Class.{Class}
 use Rattle.cfj_model.specs.declared.class.Field.{Field}
 use Rattle.cfj_model.specs.declared.class.Method.{Method}
@@ -19,17 +19,45 @@ use Rattle.cfj_model.specs.declared.site.Site.{Site}
 use Rattle.cfj_model.specs.declared.site.Site.TheVariants as site
 
 -- a rule at a site, and whether it breaks there
-pub record Judged : Type 0 where
+pub record RuleAt : Type 0 where
   pub site : Site
   pub rule : Rule
   pub breaks : Bool
 
 -- a rule, and whether it breaks
-abbrev pub Verdict : Type 0
-Verdict = Rule × Bool
+abbrev pub Ruling : Type 0
+Ruling = Rule × Bool
+
+-- the order of the rules at one site: K1 to K8, then E1 to E8
+abbrev pub rank : Rule → ℕ
+rank K1 = 1
+rank K2 = 2
+rank K3 = 3
+rank K4 = 4
+rank K5 = 5
+rank K6 = 6
+rank K7 = 7
+rank K8 = 8
+rank E1 = 9
+rank E2 = 10
+rank E3 = 11
+rank E4 = 12
+rank E5 = 13
+rank E6 = 14
+rank E7 = 15
+rank E8 = 16
+
+-- one more item in its place by rank, behind those that rank lower
+abbrev pub insert_ranked : {A : Type 0} → (A → ℕ) → A → List A → List A
+insert_ranked rank_of x [] = x ∷ []
+insert_ranked rank_of x (y ∷ ys) = if nat_lt (rank_of y) (rank_of x) then y ∷ insert_ranked rank_of x ys else x ∷ y ∷ ys
+
+-- one more ruling, in its place among those of its site
+abbrev pub with_ruling : Ruling → List Ruling → List Ruling
+with_ruling v vs = insert_ranked (λ w. rank w.0) v vs
 
 -- the rules of a site, in order
-abbrev pub judged_at : Site → List Verdict → List Judged
+abbrev pub judged_at : Site → List Ruling → List RuleAt
 judged_at s vs = map (λ v. record { site = s; rule = v.0; breaks = v.1 }) vs
 
 -- ---- lists of names
@@ -49,11 +77,11 @@ param_type ps x = option_map (λ (p : Param). p.of) (find (λ (p : Param). bytes
 abbrev pub variable_type : Environment → List ℕ → Option (List ℕ)
 variable_type g x = if bytes_eq x this then Some g.class else param_type g.params x
 
--- An expression that is judged: its type, where it has one, and the rules of its nodes by slot, its root's behind being given
--- those that the node round it judges there.
+-- An expression that is judged: its type, where it has one, and the rules of its nodes by slot. Those that the node round it judges
+-- at its root are given, and stand among its root's own in the order of the rules.
 pub record JudgedExpr : Type 0 where
   pub type : Option (List ℕ)
-  pub rules : List Verdict → List (ℕ × List Verdict)
+  pub rules : List Ruling → List (ℕ × List Ruling)
 
 -- all have types
 abbrev pub types_of : List (Option (List ℕ)) → Option (List (List ℕ))
@@ -95,7 +123,7 @@ abbrev pub fits : Fit → Bool
 fits f = not f.differs && not (list_any (λ b. b) f.misfits)
 
 -- the rules of arguments, each with the one that the call or `new` round it judges there
-abbrev pub argument_rules : Rule → List JudgedExpr → List Bool → List (ℕ × List Verdict)
+abbrev pub argument_rules : Rule → List JudgedExpr → List Bool → List (ℕ × List Ruling)
 argument_rules rule [] bs = []
 argument_rules rule (a ∷ xs) [] = a.rules ((rule, false) ∷ []) ++ argument_rules rule xs []
 argument_rules rule (a ∷ xs) (b ∷ bs) = a.rules ((rule, b) ∷ []) ++ argument_rules rule xs bs
@@ -133,7 +161,7 @@ judged_call p slot on m args =
     let f : Fit = fit_of p args ts (option_map (λ (d : Method). param_types d.params) d) in
     record {
       type = result_type (fits f) d;
-      rules = λ more. on.rules [] ++ (slot, (E3, is_some on.type && is_some ts && not (is_some d)) ∷ ((E4, f.differs) ∷ more)) ∷ argument_rules E5 args f.misfits;
+      rules = λ more. on.rules [] ++ (slot, (E3, is_some on.type && is_some ts && not (is_some d)) ∷ (E4, f.differs) ∷ more) ∷ argument_rules E5 args f.misfits;
     }
 
 -- the types of a class's fields, where the class is known
@@ -146,7 +174,7 @@ judged_new p slot c args =
     let f : Fit = fit_of p args ts (field_types p c) in
     record {
       type = type_if (is_some ts && is_known p c && fits f) c;
-      rules = λ more. (slot, (K1, not (is_known p c)) ∷ ((E6, f.differs) ∷ more)) ∷ argument_rules E7 args f.misfits;
+      rules = λ more. (slot, (K1, not (is_known p c)) ∷ with_ruling (E6, f.differs) more) ∷ argument_rules E7 args f.misfits;
     }
 
 -- a known class to which an operand's type is neither below nor above
@@ -158,7 +186,7 @@ abbrev pub judged_cast : Table → ℕ → List ℕ → JudgedExpr → JudgedExp
 judged_cast p slot c on =
     record {
       type = type_if (is_some on.type && is_known p c && not (is_unrelated p on.type c)) c;
-      rules = λ more. (slot, (K1, not (is_known p c)) ∷ ((E8, is_unrelated p on.type c) ∷ more)) ∷ on.rules [];
+      rules = λ more. (slot, (K1, not (is_known p c)) ∷ with_ruling (E8, is_unrelated p on.type c) more) ∷ on.rules [];
     }
 
 abbrev pub judged_step : Table → Environment → Expr-F JudgedExpr JudgedExpr → JudgedExpr
@@ -177,21 +205,21 @@ judged_expr p g = fold-Expr JudgedExpr JudgedExpr (judged_step p g) judged_arg
 
 -- ---- declarations
 
-abbrev pub judged_field : Table → Class → Field → List Judged
+abbrev pub judged_field : Table → Class → Field → List RuleAt
 judged_field p k f =
     judged_at (site.Field k.name f.name f.alt)
-    ((K1, not (is_known p f.of)) ∷ ((K3, list_any (λ a. is_some (field_called f.name a)) (ancestors p k.name)) ∷ []))
+    ((K1, not (is_known p f.of)) ∷ (K3, list_any (λ a. is_some (field_called f.name a)) (ancestors p k.name)) ∷ [])
 
 -- the parameters of the constructor are the fields, by types and by names
 abbrev pub takes_fields : List Param → List Field → Bool
 takes_fields ps fs = are_same (map (λ p. p.of) ps) (map (λ f. f.of) fs) && are_same (map (λ p. p.name) ps) (map (λ f. f.name) fs)
 
-abbrev pub judged_ctor : Table → Class → List Judged
+abbrev pub judged_ctor : Table → Class → List RuleAt
 judged_ctor p k =
     judged_at (site.Ctor k.name)
     ((K4, not (takes_fields k.ctor.params (all_fields p k.name)))
-    ∷ ((K5, not (are_same (map (λ s. s.name) k.ctor.sends) (map (λ f. f.name) (all_fields p k.parent))))
-    ∷ ((K6, not (are_same (map (λ a. a.name) k.ctor.assigns) (map (λ f. f.name) k.fields))) ∷ [])))
+    ∷ (K5, not (are_same (map (λ s. s.name) k.ctor.sends) (map (λ f. f.name) (all_fields p k.parent))))
+    ∷ (K6, not (are_same (map (λ a. a.name) k.ctor.assigns) (map (λ f. f.name) k.fields))) ∷ [])
     ++ flat_map (λ (c : Param). judged_at (site.CtorParam k.name c.slot) ((K1, not (is_known p c.of)) ∷ [])) k.ctor.params
 
 -- the method that the nearest ancestor declares has other parameter types or another result
@@ -207,34 +235,34 @@ is_no_result p m (Some t) = not (is_subtype p t m.result)
 abbrev pub environment_of : Class → Method → Environment
 environment_of k m = record { class = k.name; params = m.params }
 
-abbrev pub judged_method : Table → Class → Method → List Judged
+abbrev pub judged_method : Table → Class → Method → List RuleAt
 judged_method p k m =
     let body : JudgedExpr = judged_expr p (environment_of k m) m.body in
     judged_at (site.Method k.name m.name m.alt)
     ((K1, not (is_known p m.result))
-    ∷ ((K7, is_overridden_wrongly m (first_some (method_called m.name) (ancestors p k.name)))
-    ∷ ((K8, is_no_result p m body.type) ∷ [])))
+    ∷ (K7, is_overridden_wrongly m (first_some (method_called m.name) (ancestors p k.name)))
+    ∷ (K8, is_no_result p m body.type) ∷ [])
     ++ (flat_map (λ (q : Param). judged_at (site.Param k.name m.name m.alt q.slot) ((K1, not (is_known p q.of)) ∷ [])) m.params
-    ++ flat_map (λ (n : ℕ × List Verdict). judged_at (site.Node k.name m.name m.alt n.0) n.1) (body.rules []))
+    ++ flat_map (λ (n : ℕ × List Ruling). judged_at (site.Node k.name m.name m.alt n.0) n.1) (body.rules []))
 
 -- the class is an ancestor of itself
 abbrev pub extends_itself : Table → Class → Bool
 extends_itself p k = list_any (λ a. bytes_eq a.parent k.name) (chain p k.name)
 
-abbrev pub judged_class : Table → Class → List Judged
+abbrev pub judged_class : Table → Class → List RuleAt
 judged_class p k =
-    judged_at (site.Class k.name) ((K1, not (is_known p k.parent)) ∷ ((K2, extends_itself p k) ∷ []))
+    judged_at (site.Class k.name) ((K1, not (is_known p k.parent)) ∷ (K2, extends_itself p k) ∷ [])
     ++ (flat_map (judged_field p k) k.fields ++ (judged_ctor p k ++ flat_map (judged_method p k) k.methods))
 
 -- all pairs of a project, in the order of the text, the rules of a site in their order
-unfoldable pub judged : Table → List Judged
+unfoldable pub judged : Table → List RuleAt
 judged p = flat_map (judged_class p) p
 
 -- a pair of a site and a rule
 abbrev pub Pair : Type 0
 Pair = Site × Rule
 
-abbrev pub pair_of : Judged → Pair
+abbrev pub pair_of : RuleAt → Pair
 pair_of j = (j.site, j.rule)
 
 abbrev pub pairs_of : Table → List Pair

@@ -1,8 +1,8 @@
 -- Lists in the grammar, and the marks before a node: what they spell, the roles of their tokens and the colours that they give.
 use Rattle.std.specs.Prelude.{ℕ, ◌^◌, List, [], ◌∷◌, position, bit_or, Option, Some, None}
 use Rattle.std.specs.Str.{bytes_eq}
-use Rattle.cfj_model.specs.Tokens.{Token, Id, At}
-use Rattle.cfj_model.specs.Roles.{Role, mark_name, plain}
+use Rattle.cfj_words.specs.Tokens.{Token, Id, At}
+use Rattle.cfj_model.specs.Roles.{Role, mark_name, other_token}
 
 -- {X}, and what follows
 abbrev pub in_order : {A B : Type 0} → (A → List B → List B) → List A → List B → List B
@@ -21,7 +21,7 @@ separated comma spell (x ∷ xs) rest = spell x (each_behind comma spell xs rest
 
 -- "@" id
 abbrev pub spell_mark : List ℕ → List Token → List Token
-spell_mark m rest = At ∷ (Id m ∷ rest)
+spell_mark m rest = At ∷ Id m ∷ rest
 
 -- marks: {"@" id}
 abbrev pub spell_marks : List (List ℕ) → List Token → List Token
@@ -29,7 +29,7 @@ spell_marks = in_order spell_mark
 
 -- the roles of their tokens
 abbrev pub roles_mark : List ℕ → List Role → List Role
-roles_mark m rest = plain ∷ (mark_name m ∷ rest)
+roles_mark m rest = other_token ∷ mark_name m ∷ rest
 
 abbrev pub roles_marks : List (List ℕ) → List Role → List Role
 roles_marks = in_order roles_mark

@@ -1,8 +1,9 @@
+-- No public contract cites this: it serves the proofs.
 -- How a path is read: a candidate that cuts the text at its marks. It counts only where its site prints the text.
 use Rattle.std.specs.Prelude.{◌≡◌, ℕ, ◌^◌, ◌&&◌, ◌==◌, nat_lt, Option, Some, None, option_map, option_and_then, List, [], ◌∷◌, length, codes, if◌then◌else◌}
 use Rattle.std.specs.Str.{IsUtf8, all_ascii_digits, bytes_eq}
 use Rattle.std.specs.Str.Parse.{digits_value}
-use Rattle.cfj_model.specs.Names.{is_short_identifier}
+use Rattle.cfj_words.specs.Names.{is_short_identifier}
 use Rattle.cfj_model.specs.declared.site.Site.{Site}
 use Rattle.cfj_model.specs.declared.site.Site.TheVariants as site
 
@@ -27,13 +28,13 @@ number_of text =
     if all_ascii_digits text && nat_lt 0 (length text) && nat_lt (digits_value 10 text) (2 ^ 16) then Some (digits_value 10 text) else None
 
 -- a text cut at its `~`, as a member's name and its alt
-abbrev pub numbered : List ℕ → Option (List ℕ × List ℕ) → Option (List ℕ × ℕ)
-numbered text None = Some (text, 0)
-numbered text (Some parts) = option_map (λ alt. (parts.0, alt)) (number_of parts.1)
+abbrev pub with_alt : List ℕ → Option (List ℕ × List ℕ) → Option (List ℕ × ℕ)
+with_alt text None = Some (text, 0)
+with_alt text (Some parts) = option_map (λ alt. (parts.0, alt)) (number_of parts.1)
 
 -- a member's name and its alt
 abbrev pub member_of : List ℕ → Option (List ℕ × ℕ)
-member_of text = numbered text (cut 126 text)
+member_of text = with_alt text (cut 126 text)
 
 -- the text is this name with this alt
 pub record IsMember (text name : List ℕ) (alt : ℕ) : Type 0 where

@@ -12,11 +12,11 @@ use Rattle.cfj_model.specs.declared.expr.Arg.{Arg-F}
 use Rattle.cfj_model.specs.declared.expr.Expr.{Expr}
 use Rattle.cfj_model.specs.declared.expr.Expr.TheOpen.{Expr-F}
 use Rattle.cfj_model.specs.declared.expr.Expr.TheFolds.{fold-Expr}
-use Rattle.cfj_model.specs.declared.formula.Formula.{Formula}
-use Rattle.cfj_model.specs.declared.formula.Formula.TheOpen.{Formula-F}
-use Rattle.cfj_model.specs.declared.formula.Formula.TheFolds.{fold-Formula}
+use Rattle.cfj_logic.specs.declared.formula.Formula.{Formula}
+use Rattle.cfj_logic.specs.declared.formula.Formula.TheOpen.{Formula-F}
+use Rattle.cfj_logic.specs.declared.formula.Formula.TheFolds.{fold-Formula}
 use Rattle.cfj_model.specs.ProductLines.{ProductLine}
-use Rattle.cfj_model.specs.Selections.{has_bit}
+use Rattle.cfj_logic.specs.Selections.{has_bit}
 
 -- the end of a line
 abbrev pub line_end : List ℕ

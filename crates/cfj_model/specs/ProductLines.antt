@@ -1,11 +1,11 @@
 -- What a project is, and what its type keeps of it.
 use Rattle.std.specs.Prelude.{◌≡◌, ℕ, ◌+◌, Bool, true, not, ◌&&◌, ◌==◌, nat_le, List, [], ◌∷◌, ◌++◌, length, map, codes, sum_by}
-use Rattle.std.specs.List.{list_any, list_all}
+use Rattle.std.specs.List.{list_all}
 use Rattle.std.specs.Str.{bytes_eq}
-use Rattle.cfj_model.specs.Names.{is_short_identifier}
+use Rattle.cfj_words.specs.Names.{is_among, is_short_identifier}
 use Rattle.cfj_model.specs.Expressions.{are_known, is_bare, is_named, nest, node_count, slots}
-use Rattle.cfj_model.specs.Formulas.{is_over, formula_nest, formula_node_count}
-use Rattle.cfj_model.specs.declared.formula.Formula.{Formula}
+use Rattle.cfj_logic.specs.Formulas.{is_over, formula_nest, formula_node_count}
+use Rattle.cfj_logic.specs.declared.formula.Formula.{Formula}
 use Rattle.cfj_model.specs.declared.class.Method.{Method}
 use Rattle.cfj_model.specs.declared.class.Field.{Field}
 use Rattle.cfj_model.specs.declared.class.Param.{Param}
@@ -56,14 +56,10 @@ most_size = 1000000
 abbrev pub object : List ℕ
 object = codes "Object"
 
--- the name is one of these
-abbrev pub has : List (List ℕ) → List ℕ → Bool
-has names name = list_any (λ n. bytes_eq n name) names
-
 -- each name is new behind those before it
 abbrev pub are_new : List (List ℕ) → List (List ℕ) → Bool
 are_new before [] = true
-are_new before (n ∷ ns) = not (has before n) && are_new (before ++ n ∷ []) ns
+are_new before (n ∷ ns) = not (is_among before n) && are_new (before ++ n ∷ []) ns
 
 abbrev pub are_distinct : List (List ℕ) → Bool
 are_distinct = are_new []

@@ -13,7 +13,7 @@ use Rattle.cfj_model.specs.declared.expr.Expr.TheOpen.{Expr-F}
 use Rattle.cfj_model.specs.declared.expr.Expr.TheFolds.{fold-Expr}
 use Rattle.cfj_model.specs.declared.expr.Expr.TheVariants as e
 use Rattle.cfj_model.specs.ProductLines.{ProductLine}
-use Rattle.cfj_model.specs.Selections.{Chosen, is_subset}
+use Rattle.cfj_logic.specs.Selections.{Chosen, is_subset}
 
 -- A node's presence is its own colours and those of the optional nodes round it: of a node in a class, the class's too; of an
 -- argument, those of the arguments and the method round it.

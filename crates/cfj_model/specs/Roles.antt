@@ -3,9 +3,10 @@ use Rattle.std.specs.Prelude.{◌≡◌, ℕ, ◌+◌, Bool, true, ◌&&◌, not
 use Rattle.std.specs.Str.{bytes_eq}
 use Rattle.cfj_model.specs.declared.fault.FaultKind.{FaultKind}
 use Rattle.cfj_model.specs.declared.fault.FaultKind.TheVariants.{Reserved, NoFeature, Twice, Limit}
+use Rattle.cfj_model.specs.declared.fault.LimitKind.{LimitKind}
 use Rattle.cfj_model.specs.declared.fault.LimitKind.TheVariants as limit
-use Rattle.cfj_model.specs.Names.{most_name_bytes}
-use Rattle.cfj_model.specs.ProductLines.{has, object, most_features, most_classes, most_fields, most_methods, most_params, most_in_ctor, most_formula_nodes, most_nest, most_nodes, most_size}
+use Rattle.cfj_words.specs.Names.{is_among, most_name_bytes}
+use Rattle.cfj_model.specs.ProductLines.{object, most_features, most_classes, most_fields, most_methods, most_params, most_in_ctor, most_formula_nodes, most_nest, most_nodes, most_size}
 
 -- What a token is. Names: of a declared feature, in a mark, in a formula, of a class, a field, a method, a parameter of a
 -- constructor, one of a method, sent, the first of an assignment, of a variable, and any other. In formulas: a constant or a
@@ -29,11 +30,12 @@ pub data Role : Type 0 where
   opens : ℕ → Role
   casts : ℕ → Role
   node : Role
-  plain : Role
+  other_token : Role
 
--- What has been met before a place: the features, the nodes of all formulas, all class names, the names of the class in hand,
--- the parameters of the list in hand, the nodes of the body in hand, the marks of the node in hand, which are those since the
--- last token that is no part of a mark, and the size.
+-- What has been met before a place: the features, the nodes of all formulas, the marks of the node in hand, all class names, the
+-- names of the class in hand, the parameters of the list in hand, the nodes of the body in hand, and the size. Marks end at a name
+-- that is declared or used, at a bracket that opens and at the own token of an expression's node: what else stands between, as
+-- `class` or `this`, ends none.
 pub record Tally : Type 0 where
   pub features : List (List ℕ)
   pub formula_nodes : ℕ
@@ -88,7 +90,7 @@ counted t (formula_opens n) = record t { formula_nodes = t.formula_nodes + 1 }
 counted t (opens n) = record t { marks = [] }
 counted t (casts n) = with_node t
 counted t node = with_node t
-counted t plain = t
+counted t other_token = t
 
 abbrev pub tallied : Tally → List Role → Tally
 tallied t [] = t
@@ -99,44 +101,72 @@ abbrev pub first_of : List (Bool × FaultKind) → Option FaultKind
 first_of [] = None
 first_of (f ∷ fs) = if f.0 then Some f.1 else first_of fs
 
+-- ---- Each rule and each limit: the test of what breaks it, and the fault that tells it.
+
 -- the name has too many bytes
 abbrev pub is_long : List ℕ → Bool
 is_long w = nat_lt most_name_bytes (length w)
 
--- Each limit with the test of one more.
+abbrev pub too_long : List ℕ → Bool × FaultKind
+too_long w = (is_long w, Limit limit.Name)
+
+-- a class that is named as the class above all is
+abbrev pub is_object : List ℕ → Bool × FaultKind
+is_object w = (bytes_eq w object, Reserved)
+
+-- the name was declared before, or marks the node already
+abbrev pub is_repeated : List (List ℕ) → List ℕ → Bool × FaultKind
+is_repeated names w = (is_among names w, Twice w)
+
+-- the name is no declared feature's
+abbrev pub is_no_feature : Tally → List ℕ → Bool × FaultKind
+is_no_feature t w = (not (is_among t.features w), NoFeature w)
+
+-- as many are there as may be, so one more is too many
+abbrev pub is_past : ℕ → ℕ → LimitKind → Bool × FaultKind
+is_past most count kind = (nat_le most count, Limit kind)
+
 abbrev pub past_formula : Tally → Bool × FaultKind
-past_formula t = (nat_le most_formula_nodes t.formula_nodes, Limit limit.Formula)
+past_formula t = is_past most_formula_nodes t.formula_nodes limit.Formula
 
 -- so many are open at once
 abbrev pub past_nest : ℕ → Bool × FaultKind
 past_nest n = (nat_lt most_nest n, Limit limit.Nest)
 
 abbrev pub past_nodes : Tally → Bool × FaultKind
-past_nodes t = (nat_le most_nodes t.nodes, Limit limit.Nodes)
+past_nodes t = is_past most_nodes t.nodes limit.Nodes
 
 abbrev pub past_size : Tally → Bool × FaultKind
-past_size t = (nat_le most_size t.size, Limit limit.Size)
+past_size t = is_past most_size t.size limit.Size
+
+-- one more in a list of a constructor
+abbrev pub past_ctor : ℕ → Bool × FaultKind
+past_ctor count = is_past most_in_ctor count limit.Ctor
 
 -- Which rule or limit a token in this role breaks behind these, the first of them in the order of the faults of one token.
 abbrev pub broken_by : Tally → Role → Option FaultKind
-broken_by t (feature_name w) = first_of ((is_long w, Limit limit.Name) ∷ ((has t.features w, Twice w) ∷ ((nat_le most_features (length t.features), Limit limit.Features) ∷ [])))
-broken_by t (mark_name w) = first_of ((is_long w, Limit limit.Name) ∷ ((not (has t.features w), NoFeature w) ∷ ((has t.marks w, Twice w) ∷ [])))
-broken_by t (formula_name w) = first_of ((is_long w, Limit limit.Name) ∷ ((not (has t.features w), NoFeature w) ∷ (past_formula t ∷ [])))
-broken_by t (class_name w) = first_of ((bytes_eq w object, Reserved) ∷ ((is_long w, Limit limit.Name) ∷ ((has t.classes w, Twice w) ∷ ((nat_le most_classes (length t.classes), Limit limit.Classes) ∷ (past_size t ∷ [])))))
-broken_by t (field_name w) = first_of ((is_long w, Limit limit.Name) ∷ ((has t.fields w, Twice w) ∷ ((nat_le most_fields (length t.fields), Limit limit.Fields) ∷ (past_size t ∷ []))))
-broken_by t (method_name w) = first_of ((is_long w, Limit limit.Name) ∷ ((has t.methods w, Twice w) ∷ ((nat_le most_methods (length t.methods), Limit limit.Methods) ∷ (past_size t ∷ []))))
-broken_by t (param_name w) = first_of ((is_long w, Limit limit.Name) ∷ ((has t.params w, Twice w) ∷ ((nat_le most_in_ctor (length t.params), Limit limit.Ctor) ∷ (past_size t ∷ []))))
-broken_by t (method_param_name w) = first_of ((is_long w, Limit limit.Name) ∷ ((has t.params w, Twice w) ∷ ((nat_le most_params (length t.params), Limit limit.Params) ∷ (past_size t ∷ []))))
-broken_by t (sent_name w) = first_of ((is_long w, Limit limit.Name) ∷ ((nat_le most_in_ctor t.sends, Limit limit.Ctor) ∷ (past_size t ∷ [])))
-broken_by t (assigned_name w) = first_of ((is_long w, Limit limit.Name) ∷ ((nat_le most_in_ctor t.assigns, Limit limit.Ctor) ∷ (past_size t ∷ [])))
-broken_by t (var_name w) = first_of ((is_long w, Limit limit.Name) ∷ (past_nodes t ∷ (past_size t ∷ [])))
-broken_by t (used_name w) = first_of ((is_long w, Limit limit.Name) ∷ [])
+broken_by t (feature_name w) = first_of (too_long w ∷ is_repeated t.features w ∷ is_past most_features (length t.features) limit.Features ∷ [])
+broken_by t (mark_name w) = first_of (too_long w ∷ is_no_feature t w ∷ is_repeated t.marks w ∷ [])
+broken_by t (formula_name w) = first_of (too_long w ∷ is_no_feature t w ∷ past_formula t ∷ [])
+broken_by t (class_name w) =
+    first_of (is_object w ∷ too_long w ∷ is_repeated t.classes w ∷ is_past most_classes (length t.classes) limit.Classes ∷ past_size t ∷ [])
+broken_by t (field_name w) =
+    first_of (too_long w ∷ is_repeated t.fields w ∷ is_past most_fields (length t.fields) limit.Fields ∷ past_size t ∷ [])
+broken_by t (method_name w) =
+    first_of (too_long w ∷ is_repeated t.methods w ∷ is_past most_methods (length t.methods) limit.Methods ∷ past_size t ∷ [])
+broken_by t (param_name w) = first_of (too_long w ∷ is_repeated t.params w ∷ past_ctor (length t.params) ∷ past_size t ∷ [])
+broken_by t (method_param_name w) =
+    first_of (too_long w ∷ is_repeated t.params w ∷ is_past most_params (length t.params) limit.Params ∷ past_size t ∷ [])
+broken_by t (sent_name w) = first_of (too_long w ∷ past_ctor t.sends ∷ past_size t ∷ [])
+broken_by t (assigned_name w) = first_of (too_long w ∷ past_ctor t.assigns ∷ past_size t ∷ [])
+broken_by t (var_name w) = first_of (too_long w ∷ past_nodes t ∷ past_size t ∷ [])
+broken_by t (used_name w) = first_of (too_long w ∷ [])
 broken_by t formula_node = first_of (past_formula t ∷ [])
-broken_by t (formula_opens n) = first_of (past_formula t ∷ (past_nest n ∷ []))
+broken_by t (formula_opens n) = first_of (past_formula t ∷ past_nest n ∷ [])
 broken_by t (opens n) = first_of (past_nest n ∷ [])
-broken_by t (casts n) = first_of (past_nest n ∷ (past_nodes t ∷ (past_size t ∷ [])))
-broken_by t node = first_of (past_nodes t ∷ (past_size t ∷ []))
-broken_by t plain = None
+broken_by t (casts n) = first_of (past_nest n ∷ past_nodes t ∷ past_size t ∷ [])
+broken_by t node = first_of (past_nodes t ∷ past_size t ∷ [])
+broken_by t other_token = None
 
 -- no token of these breaks a rule or a limit
 abbrev pub AreWithin : Tally → List Role → Type 0

@@ -1,7 +1,7 @@
 -- The text of a site: a path that names a node of a project.
 use Rattle.std.specs.Prelude.{◌≡◌, ℕ, ◌<◌, ◌^◌, true, ◌==◌, List, [], ◌++◌, codes, if◌then◌else◌}
 use Rattle.std.specs.Fmt.{decimal}
-use Rattle.cfj_model.specs.Names.{is_short_identifier}
+use Rattle.cfj_words.specs.Names.{is_short_identifier}
 use Rattle.cfj_model.specs.declared.site.Site.{Site}
 use Rattle.cfj_model.specs.declared.site.Site.TheVariants as site
 use Rattle.cfj_model.specs.declared.site_ref.SiteRef.{SiteRef}

@@ -3,7 +3,7 @@ use Rattle.std.specs.Prelude.{◌≡◌, ℕ, true, false, List, [], ◌∷◌, 
 use Rattle.std.specs.Str.{bytes_eq}
 use Rattle.cfj_model.specs.ProductLines.{object}
 use Rattle.cfj_model.specs.LookUps.{Table, declared, method_called, is_known}
-use Rattle.cfj_model.specs.UnitClauses.{Has}
+use Rattle.cfj_words.specs.Lists.{Has}
 use Rattle.cfj_model.specs.declared.class.Class.{Class}
 use Rattle.cfj_model.specs.declared.class.Field.{Field}
 use Rattle.cfj_model.specs.declared.class.Method.{Method}

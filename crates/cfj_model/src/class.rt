@@ -1,10 +1,10 @@
+//! Classes, their members and what these are made of.
+
 ghost use Rattle.std.specs.Prelude.{◌≡◌, IfOk};
 
 use crate::colors::Colors;
-use crate::copied::{Copied, copied_items};
 use crate::expr::Expr;
-use crate::items::Items;
-use crate::name::Name;
+use cfj_words::{Copied, Items, Name, both, copied_items};
 use std::alloc::{AllocError, Global};
 
 /// `of name;` in a class.
@@ -98,11 +98,12 @@ impl Field {
     pub fn copy(&self, alloc: Global) -> Result<Field, AllocError>
         ensures { IfOk result (λ field. field ≡ self.now) }
     {
+        let (of, name) = both(self.of.copy(alloc), self.name.copy(alloc))?;
         Ok(Field {
             alt: self.alt,
             colors: self.colors,
-            of: self.of.copy(alloc)?,
-            name: self.name.copy(alloc)?,
+            of,
+            name,
         })
     }
 }
@@ -122,11 +123,12 @@ impl Param {
     pub fn copy(&self, alloc: Global) -> Result<Param, AllocError>
         ensures { IfOk result (λ param. param ≡ self.now) }
     {
+        let (of, name) = both(self.of.copy(alloc), self.name.copy(alloc))?;
         Ok(Param {
             slot: self.slot,
             colors: self.colors,
-            of: self.of.copy(alloc)?,
-            name: self.name.copy(alloc)?,
+            of,
+            name,
         })
     }
 }
@@ -169,10 +171,16 @@ impl Constructor {
     pub fn copy(&self, alloc: Global) -> Result<Constructor, AllocError>
         ensures { IfOk result (λ ctor. ctor ≡ self.now) }
     {
+        let params = copied_items(alloc, &self.params);
+        let sends = copied_items(alloc, &self.sends);
+        let (params, (sends, assigns)) = both(
+            params,
+            both(sends, copied_items(alloc, &self.assigns)),
+        )?;
         Ok(Constructor {
-            params: copied_items(alloc, &self.params)?,
-            sends: copied_items(alloc, &self.sends)?,
-            assigns: copied_items(alloc, &self.assigns)?,
+            params,
+            sends,
+            assigns,
         })
     }
 }
@@ -186,13 +194,16 @@ impl Method {
     pub fn copy(&self, alloc: Global) -> Result<Method, AllocError>
         ensures { IfOk result (λ method. method ≡ self.now) }
     {
+        let names = both(self.result.copy(alloc), self.name.copy(alloc));
+        let parts = both(copied_items(alloc, &self.params), self.body.copy(alloc));
+        let ((result, name), (params, body)) = both(names, parts)?;
         Ok(Method {
             alt: self.alt,
             colors: self.colors,
-            result: self.result.copy(alloc)?,
-            name: self.name.copy(alloc)?,
-            params: copied_items(alloc, &self.params)?,
-            body: self.body.copy(alloc)?,
+            result,
+            name,
+            params,
+            body,
         })
     }
 }
@@ -212,13 +223,22 @@ impl Class {
     pub fn copy(&self, alloc: Global) -> Result<Class, AllocError>
         ensures { IfOk result (λ class. class ≡ self.now) }
     {
+        let names = both(self.name.copy(alloc), self.parent.copy(alloc));
+        let members = both(
+            copied_items(alloc, &self.fields),
+            copied_items(alloc, &self.methods),
+        );
+        let ((name, parent), (ctor, (fields, methods))) = both(
+            names,
+            both(self.ctor.copy(alloc), members),
+        )?;
         Ok(Class {
-            name: self.name.copy(alloc)?,
+            name,
             colors: self.colors,
-            parent: self.parent.copy(alloc)?,
-            fields: copied_items(alloc, &self.fields)?,
-            ctor: self.ctor.copy(alloc)?,
-            methods: copied_items(alloc, &self.methods)?,
+            parent,
+            fields,
+            ctor,
+            methods,
         })
     }
 }

@@ -1,14 +1,17 @@
-ghost use Rattle.std.specs.Prelude.{◌≡◌, ℕ, ◌^◌, ◌<◌, ◌↔◌, IsTrue, IsBitSet, bit_or};
-ghost use Rattle.cfj_model.specs.Selections.{has_bit};
+//! The features that nodes are marked with.
 
+ghost use Rattle.std.specs.Prelude.{◌≡◌, ℕ, ◌^◌, ◌<◌, ◌↔◌, IsTrue, IsBitSet, bit_or};
+ghost use Rattle.cfj_logic.specs.Selections.{has_bit, is_subset};
+
+use cfj_logic::{FeatureSet, Selection};
 use std::marker::Model;
 
-/// The features that a node is marked with: a set of feature numbers below 128, in one word.
+/// The features that a node is marked with.
 ///
 /// Contracts see it as the number whose bits are its members.
 #[derive(Clone, Copy, Debug, PartialEq, Eq)]
 pub struct Colors {
-    bits: u128,
+    features: FeatureSet,
 }
 
 impl Model for Colors {
@@ -16,9 +19,9 @@ impl Model for Colors {
 
     ghost Value = { ℕ };
 
-    ghost view = { λ c. c.bits };
+    ghost view = { λ c. c.features };
 
-    ghost inverse = { λ n. record { bits = n } };
+    ghost inverse = { λ n. record { features = n } };
 }
 
 impl Colors {
@@ -26,7 +29,9 @@ impl Colors {
     pub fn empty() -> Colors
         ensures { result ≡ 0 }
     {
-        Colors { bits: 0 }
+        Colors {
+            features: FeatureSet::empty(),
+        }
     }
 
     /// The set with this feature too.
@@ -35,7 +40,7 @@ impl Colors {
         ensures { result ≡ bit_or self (2 ^ feature) }
     {
         Colors {
-            bits: self.bits | (1 << feature),
+            features: self.features.with(feature),
         }
     }
 
@@ -45,13 +50,13 @@ impl Colors {
         ensures member { result ≡ has_bit self.now feature }
         ensures bit { IsTrue result ↔ IsBitSet self.now feature }
     {
-        self.bits & (1 << feature) != 0
+        self.features.has(feature)
     }
 
-    // The word itself, for a test of the whole set at once.
-    pub(crate) fn bits(self) -> u128
-        ensures { result ≡ self }
+    /// Whether all of these features are selected, so that a variant keeps what is marked with them.
+    pub fn is_kept_by(&self, selection: &Selection) -> bool
+        ensures { result ≡ is_subset self.now selection.now.on }
     {
-        self.bits
+        self.features.is_subset(&selection.selected())
     }
 }

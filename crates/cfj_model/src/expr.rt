@@ -1,9 +1,9 @@
+//! Expressions.
+
 ghost use Rattle.std.specs.Prelude.{◌≡◌, IfOk, take};
 
-use crate::boxed::Boxed;
 use crate::colors::Colors;
-use crate::items::Items;
-use crate::name::Name;
+use cfj_words::{Boxed, Items, Name, both};
 use std::alloc::{AllocError, Global};
 
 /// An expression. The slots of a body number its nodes, which projection keeps.
@@ -68,11 +68,11 @@ impl Expr {
                 name: name.copy(alloc)?,
             }),
             Expr::Get { slot, on, field } => {
-                let on = on.get().copy(alloc)?;
+                let (on, field) = both(boxed_copy(alloc, on), field.copy(alloc))?;
                 Ok(Expr::Get {
                     slot: *slot,
-                    on: Boxed::new(alloc, on)?,
-                    field: field.copy(alloc)?,
+                    on,
+                    field,
                 })
             }
             Expr::Call {
@@ -81,29 +81,40 @@ impl Expr {
                 method,
                 args,
             } => {
-                let on = on.get().copy(alloc)?;
+                let sent = both(method.copy(alloc), copy_args(alloc, args.slice()));
+                let (on, (method, args)) = both(boxed_copy(alloc, on), sent)?;
                 Ok(Expr::Call {
                     slot: *slot,
-                    on: Boxed::new(alloc, on)?,
-                    method: method.copy(alloc)?,
-                    args: copy_args(alloc, args.slice())?,
+                    on,
+                    method,
+                    args,
                 })
             }
-            Expr::New { slot, class, args } => Ok(Expr::New {
-                slot: *slot,
-                class: class.copy(alloc)?,
-                args: copy_args(alloc, args.slice())?,
-            }),
+            Expr::New { slot, class, args } => {
+                let (class, args) = both(class.copy(alloc), copy_args(alloc, args.slice()))?;
+                Ok(Expr::New {
+                    slot: *slot,
+                    class,
+                    args,
+                })
+            }
             Expr::Cast { slot, class, on } => {
-                let on = on.get().copy(alloc)?;
+                let (class, on) = both(class.copy(alloc), boxed_copy(alloc, on))?;
                 Ok(Expr::Cast {
                     slot: *slot,
-                    class: class.copy(alloc)?,
-                    on: Boxed::new(alloc, on)?,
+                    class,
+                    on,
                 })
             }
         }
     }
+}
+
+#[cycle(copy)]
+fn boxed_copy(alloc: Global, expr: &Boxed<Expr>) -> Result<Boxed<Expr>, AllocError>
+    ensures { IfOk result (λ copy. copy ≡ expr.now) }
+{
+    Boxed::new(alloc, expr.get().copy(alloc)?)
 }
 
 impl Arg {

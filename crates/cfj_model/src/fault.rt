@@ -1,11 +1,14 @@
+//! The faults of a text.
+
 ghost use Rattle.std.specs.Prelude.{Some};
 ghost use Rattle.cfj_model.specs.FaultTexts.{kind_text, limit_text};
 
-use crate::name::Name;
+use cfj_words::Name;
 use std::alloc::{AllocError, AllocFailed};
 use std::fmt;
 
-/// The limits that a text can pass, in the order in which they are tested at one token.
+/// The limits that a text can pass. At one token that of names is tested before the names are looked up, the others behind that, in
+/// this order.
 #[derive(Clone, Copy, Debug, PartialEq, Eq)]
 pub enum LimitKind {
     /// 128 features.

@@ -1,9 +1,9 @@
+//! Feature models.
+
 ghost use Rattle.std.specs.Prelude.{◌≡◌, IfOk};
 
-use crate::copied::copied_items;
-use crate::formula::Formula;
-use crate::items::Items;
-use crate::name::Name;
+use cfj_logic::Formula;
+use cfj_words::{Items, Name, copied_items};
 use std::alloc::{AllocError, Global};
 
 /// The features of a product line, and which selections of them are valid.

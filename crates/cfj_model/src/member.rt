@@ -1,3 +1,5 @@
+//! Members of a class.
+
 ghost use Rattle.std.specs.Prelude.{◌≡◌, IfOk};
 
 use crate::class::{Field, Method};

@@ -1,6 +1,8 @@
+//! The names of members.
+
 ghost use Rattle.std.specs.Prelude.{◌≡◌, IfOk};
 
-use crate::name::Name;
+use cfj_words::Name;
 use std::alloc::{AllocError, Global};
 
 /// A field or a method of a class: the class, the member's name and its alt.

@@ -6,8 +6,8 @@ ghost use Rattle.cfj_model.specs.Sites.{site_text, IsPath, IsPathName};
 ghost use Rattle.cfj_model.specs.Paths as spec;
 ghost use Rattle.cfj_model.specs.declared.site.Site.{Site as SeenSite};
 
-use crate::name::{Name, is_identifier};
 use crate::site::Site;
+use cfj_words::{Name, is_identifier};
 use std::alloc::{AllocError, Global};
 
 /// The site that a text names; `None` exactly where the text is no path.

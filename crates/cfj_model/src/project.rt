@@ -1,11 +1,12 @@
+//! Product lines.
+
 ghost use Rattle.std.specs.Prelude.{◌≡◌, ◌<◌, IfOk, Some, length, slice_get, position};
 ghost use Rattle.std.specs.Str.{bytes_eq};
 ghost use Rattle.cfj_model.specs.ProductLines.{IsProject};
 
 use crate::class::Class;
 use crate::feature_model::FeatureModel;
-use crate::items::Items;
-use crate::name::Name;
+use cfj_words::{Items, Name};
 use std::alloc::AllocError;
 use std::marker::Model;
 use std::sync::Arc;
@@ -22,7 +23,7 @@ pub struct Project {
 impl Model for Project {
     ghost use Rattle.cfj_model.specs.ProductLines.{ProductLine, IsProject};
     ghost use Rattle.cfj_model.specs.contracts.expr.Expr as expr;
-    ghost use Rattle.cfj_model.specs.contracts.formula.Formula as formula;
+    ghost use Rattle.cfj_logic.specs.contracts.formula.Formula as formula;
     ghost use Rattle.std.specs.Coded.{codes};
 
     ghost Value = { ProductLine };

@@ -1,8 +1,10 @@
+//! The nodes of a project, and the rules that are judged at them.
 ghost use Rattle.std.specs.Prelude.{◌≡◌, Some, IfOk};
+ghost use Rattle.cfj_model.specs.Judging.{rank};
 ghost use Rattle.cfj_model.specs.Sites as spec;
 
-use crate::name::Name;
 use crate::site_ref::SiteRef;
+use cfj_words::Name;
 use std::alloc::{AllocError, Global};
 use std::fmt;
 
@@ -94,26 +96,33 @@ impl Site {
     pub fn copy(&self, alloc: Global) -> Result<Site, AllocError>
         ensures { IfOk result (λ site. site ≡ self.now) }
     {
-        Ok(match self {
-            Site::Model => Site::Model,
-            Site::Class(class) => Site::Class(class.copy(alloc)?),
-            Site::Field(class, field, alt) => {
-                Site::Field(class.copy(alloc)?, field.copy(alloc)?, *alt)
-            }
-            Site::Ctor(class) => Site::Ctor(class.copy(alloc)?),
-            Site::CtorParam(class, slot) => Site::CtorParam(class.copy(alloc)?, *slot),
-            Site::SuperArg(class, slot) => Site::SuperArg(class.copy(alloc)?, *slot),
-            Site::Assign(class, slot) => Site::Assign(class.copy(alloc)?, *slot),
-            Site::Method(class, method, alt) => {
-                Site::Method(class.copy(alloc)?, method.copy(alloc)?, *alt)
-            }
-            Site::Param(class, method, alt, slot) => {
-                Site::Param(class.copy(alloc)?, method.copy(alloc)?, *alt, *slot)
-            }
-            Site::Node(class, method, alt, slot) => {
-                Site::Node(class.copy(alloc)?, method.copy(alloc)?, *alt, *slot)
-            }
-        })
+        self.as_ref().to_site(alloc)
+    }
+}
+
+impl Rule {
+    /// The rule's place in the order of the rules at one site: K1 to K8, then E1 to E8.
+    pub fn rank(self) -> u8
+        ensures { result ≡ rank self }
+    {
+        match self {
+            Rule::K1 => 1,
+            Rule::K2 => 2,
+            Rule::K3 => 3,
+            Rule::K4 => 4,
+            Rule::K5 => 5,
+            Rule::K6 => 6,
+            Rule::K7 => 7,
+            Rule::K8 => 8,
+            Rule::E1 => 9,
+            Rule::E2 => 10,
+            Rule::E3 => 11,
+            Rule::E4 => 12,
+            Rule::E5 => 13,
+            Rule::E6 => 14,
+            Rule::E7 => 15,
+            Rule::E8 => 16,
+        }
     }
 }
 

@@ -1,7 +1,11 @@
-ghost use Rattle.std.specs.Prelude.{Some};
+//! References to the nodes of a project, and their paths as text.
+
+ghost use Rattle.std.specs.Prelude.{◌≡◌, Some, IfOk};
 ghost use Rattle.cfj_model.specs.Sites as spec;
 
-use crate::name::Name;
+use crate::site::Site;
+use cfj_words::{Name, both};
+use std::alloc::{AllocError, Global};
 use std::fmt;
 
 /// A node of a project, as `Site` has it, over names that stand elsewhere.
@@ -27,6 +31,38 @@ pub enum SiteRef<'a> {
     Param(&'a Name, &'a Name, u16, u16),
     /// A node of a method's body.
     Node(&'a Name, &'a Name, u16, u16),
+}
+
+impl SiteRef<'_> {
+    /// The site that this names, over names in memory of its own.
+    pub fn to_site(self, alloc: Global) -> Result<Site, AllocError>
+        ensures { IfOk result (λ site. site ≡ spec.site_ref_seen self.entry) }
+    {
+        match self {
+            SiteRef::Model => Ok(Site::Model),
+            SiteRef::Class(class) => Ok(Site::Class(class.copy(alloc)?)),
+            SiteRef::Field(class, field, alt) => {
+                let (class, field) = both(class.copy(alloc), field.copy(alloc))?;
+                Ok(Site::Field(class, field, alt))
+            }
+            SiteRef::Ctor(class) => Ok(Site::Ctor(class.copy(alloc)?)),
+            SiteRef::CtorParam(class, slot) => Ok(Site::CtorParam(class.copy(alloc)?, slot)),
+            SiteRef::SuperArg(class, slot) => Ok(Site::SuperArg(class.copy(alloc)?, slot)),
+            SiteRef::Assign(class, slot) => Ok(Site::Assign(class.copy(alloc)?, slot)),
+            SiteRef::Method(class, method, alt) => {
+                let (class, method) = both(class.copy(alloc), method.copy(alloc))?;
+                Ok(Site::Method(class, method, alt))
+            }
+            SiteRef::Param(class, method, alt, slot) => {
+                let (class, method) = both(class.copy(alloc), method.copy(alloc))?;
+                Ok(Site::Param(class, method, alt, slot))
+            }
+            SiteRef::Node(class, method, alt, slot) => {
+                let (class, method) = both(class.copy(alloc), method.copy(alloc))?;
+                Ok(Site::Node(class, method, alt, slot))
+            }
+        }
+    }
 }
 
 /// What stands behind a member's name: nothing for the first of its name, else `~` and its alt.

@@ -5,22 +5,21 @@ use Rattle.std.specs.Str.{bytes_eq}
 use Rattle.std.proofs.lemmas.Bool.{and_parts}
 use Rattle.std.proofs.lemmas.List.{drop_more}
 use Rattle.std.proofs.lemmas.Slice.Eq.{bytes_eq-Decides}
-use Rattle.cfj_model.specs.Names.{is_name, is_short_identifier}
-use Rattle.cfj_model.specs.ProductLines.{has}
+use Rattle.cfj_words.specs.Names.{is_among, is_name, is_short_identifier}
 use Rattle.feature_model.specs.declared.names.NameFault.{NameFault}
 use Rattle.feature_model.specs.declared.names.NameFault.TheVariants.{NoFeature, Twice}
-use Rattle.cfj_model.specs.Selections.{Chosen}
+use Rattle.cfj_logic.specs.Selections.{Chosen}
 use Rattle.feature_model.specs.NamedSelections.{named_selection, IsSpelled, AreDistinctFeatures, IsNoFeature, IsFirstBad}
 
 named_if_short : (text : List ℕ) → is_short_identifier text ≡ true → is_name text ≡ true
 named_if_short text e = ap (λ b. b || bytes_eq text (codes "this")) e
 
 -- Each feature is a name, so a text that can't be a name is none.
-pub no_feature : (features : List (List ℕ)) (part : List ℕ) → list_all is_short_identifier features ≡ true → is_name part ≡ false → has features part ≡ false
+pub no_feature : (features : List (List ℕ)) (part : List ℕ) → list_all is_short_identifier features ≡ true → is_name part ≡ false → is_among features part ≡ false
 no_feature [] part e none = refl
 no_feature (f ∷ fs) part e none =
     let parts = and_parts (is_short_identifier f) (list_all is_short_identifier fs) e in
-    ap (λ b. b || has fs part) (other (bytes_eq f part) refl (named_if_short f parts.0)) ∙ no_feature fs part parts.1 none
+    ap (λ b. b || is_among fs part) (other (bytes_eq f part) refl (named_if_short f parts.0)) ∙ no_feature fs part parts.1 none
   where
     other : (b : Bool) → bytes_eq f part ≡ b → is_name f ≡ true → bytes_eq f part ≡ false
     other false same named = same
@@ -61,11 +60,11 @@ module _ (features names more : List (List ℕ)) where
     there = get_before names more at h.name h.there;
     before = subst (AreDistinctFeatures features) (take_before names more at h.name h.there) h.before;
     known = h.known;
-    repeated = subst (λ (w : List (List ℕ)). has w h.name ≡ true) (take_before names more at h.name h.there) h.repeated;
+    repeated = subst (λ (w : List (List ℕ)). is_among w h.name ≡ true) (take_before names more at h.name h.there) h.repeated;
   }
 
 -- Behind distinct features, a text that is no feature is the first bad name.
-pub next_is_bad : (features names rest : List (List ℕ)) (part : List ℕ) → AreDistinctFeatures features names → has features part ≡ false → IsNoFeature features (names ++ part ∷ rest) (length names)
+pub next_is_bad : (features names rest : List (List ℕ)) (part : List ℕ) → AreDistinctFeatures features names → is_among features part ≡ false → IsNoFeature features (names ++ part ∷ rest) (length names)
 next_is_bad features names rest part h unknown = record {
   name = part;
   there = get_next names rest part;
@@ -79,7 +78,7 @@ unfolding named_selection
 of_its_features features names s h = ap (λ (t : Chosen). t.features) h.selected
 
 -- Where all texts before one are names, and that one can't be, the first bad name is the one that it is with that text behind.
-pub first_of_parts : (features : List (List ℕ)) (parts : List (Bor (List ℕ))) (i : ℕ) (d : Bor (List ℕ)) (names : List (List ℕ)) (fault : NameFault) → i < length parts → names ++ map (λ part. part.now) (drop i parts) ≡ map (λ part. part.now) parts → list_all is_short_identifier features ≡ true → is_name (slice_index_or parts i d).now ≡ false → ((part : List ℕ) (rest : List (List ℕ)) → has features part ≡ false → IsFirstBad features (names ++ part ∷ rest) fault) → IsFirstBad features (map (λ part. part.now) parts) fault
+pub first_of_parts : (features : List (List ℕ)) (parts : List (Bor (List ℕ))) (i : ℕ) (d : Bor (List ℕ)) (names : List (List ℕ)) (fault : NameFault) → i < length parts → names ++ map (λ part. part.now) (drop i parts) ≡ map (λ part. part.now) parts → list_all is_short_identifier features ≡ true → is_name (slice_index_or parts i d).now ≡ false → ((part : List ℕ) (rest : List (List ℕ)) → is_among features part ≡ false → IsFirstBad features (names ++ part ∷ rest) fault) → IsFirstBad features (map (λ part. part.now) parts) fault
 first_of_parts features parts i d names fault lt split named none bad =
     let part = slice_index_or parts i d in
     let rest = map (λ (p : Bor (List ℕ)). p.now) (drop (i + 1) parts) in

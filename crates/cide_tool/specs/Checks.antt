@@ -4,10 +4,10 @@ use Rattle.std.specs.List.{list_any}
 use Rattle.cfj_model.specs.Faults.{IsTextOf, projects}
 use Rattle.cfj_model.specs.ProductLines.{ProductLine}
 use Rattle.cfj_model.specs.Projection.{projected}
-use Rattle.cfj_model.specs.Selections.{Chosen}
-use Rattle.cfj_model.specs.Sides.{Sides}
+use Rattle.cfj_logic.specs.Selections.{Chosen}
+use Rattle.cfj_logic.specs.Sides.{Sides}
 use Rattle.cfj_model.specs.Typing.{IsWellTyped}
-use Rattle.cfj_model.specs.UnitClauses.{Has}
+use Rattle.cfj_words.specs.Lists.{Has}
 use Rattle.cfj_model.specs.declared.site.Rule.{Rule}
 use Rattle.cfj_model.specs.declared.site.Site.{Site}
 use Rattle.cide_io.specs.Known.{Known, appended, IsCut}

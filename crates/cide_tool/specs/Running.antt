@@ -5,8 +5,8 @@ use Rattle.std.specs.Str.{bytes_eq}
 use Rattle.cfj_model.specs.declared.fault.FaultKind.{FaultKind}
 use Rattle.cfj_model.specs.Faults.{IsTextOf, IsFirstFault, projects}
 use Rattle.cfj_model.specs.ProductLines.{ProductLine}
-use Rattle.cfj_model.specs.Selections.{Chosen}
-use Rattle.cfj_model.specs.Validity.{IsValid, IsFirstFalse}
+use Rattle.cfj_logic.specs.Selections.{Chosen}
+use Rattle.cfj_logic.specs.Validity.{IsValid, IsFirstFalse}
 use Rattle.cide_io.specs.Known.{Known, appended, IsCut}
 use Rattle.cide_tool.specs.Lines.{refusal_line, names_line, invalid_line}
 use Rattle.feature_model.specs.declared.names.NameFault.{NameFault}

@@ -1,7 +1,7 @@
 ghost use Rattle.std.specs.Prelude.{◌≡◌, ℕ, ◌≤◌, List, ◌∷◌, ◌++◌, true, false, length, map, IfOk, IfErr};
 ghost use Rattle.std.specs.List.{list_all};
-ghost use Rattle.cfj_model.specs.Names.{is_short_identifier};
-ghost use Rattle.cfj_model.specs.ProductLines.{has, are_distinct};
+ghost use Rattle.cfj_words.specs.Names.{is_among, is_short_identifier};
+ghost use Rattle.cfj_model.specs.ProductLines.{are_distinct};
 ghost use Rattle.feature_model.specs.NamedSelections.{AreDistinctFeatures, IsSpelled, IsFirstBad};
 
 use cfj_model::{FeatureModel, Name, Selection};
@@ -36,7 +36,7 @@ pub fn selection_of(
 fn first_bad(model: &FeatureModel, names: &[Name]) -> NameFault
     requires few { length model.now.features ≤ 128 }
     requires distinct { are_distinct model.now.features ≡ true }
-    ensures { (part : List ℕ) (rest : List (List ℕ)) → has model.now.features part ≡ false
+    ensures { (part : List ℕ) (rest : List (List ℕ)) → is_among model.now.features part ≡ false
         → IsFirstBad model.now.features (names.now ++ part ∷ rest) result }
 {
     match read_selection(model, names) {

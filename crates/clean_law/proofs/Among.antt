@@ -1,7 +1,7 @@
 -- Lists whose items are all items of another.
 use Rattle.std.proofs.Common.{◌≡◌, ◌⊎◌, inl, inr, Bool, true, false, if◌then◌else◌, List, [], ◌∷◌, ◌++◌, map, sym, subst}
 use Rattle.std.specs.List.{filter, flat_map}
-use Rattle.cfj_model.specs.UnitClauses.{Has}
+use Rattle.cfj_words.specs.Lists.{Has}
 use Rattle.feature_views.proofs.Kept.{kept}
 use Rattle.plain_fj.proofs.Members.{has_either, has_left, has_right}
 

@@ -1,13 +1,13 @@
 -- Where a checked product line has no entry, nothing breaks in the variant of a valid selection.
 use Rattle.std.proofs.Common.{◌≡◌, ℕ, ◌⊎◌, inl, inr, Bool, true, List, [], None, option_map, ap, subst}
 use Rattle.std.proofs.lemmas.Bool.{false_from_ne_true}
-use Rattle.cfj_model.specs.Judging.{Breaks, Judged, Pair, first_breaking, judged, pair_of, pairs_of}
+use Rattle.cfj_model.specs.Judging.{Breaks, RuleAt, Pair, first_breaking, judged, pair_of, pairs_of}
 use Rattle.cfj_model.specs.LookUps.{Table}
 use Rattle.cfj_model.specs.ProductLines.{IsProject, ProductLine}
 use Rattle.cfj_model.specs.Projection.{projected}
-use Rattle.cfj_model.specs.Selections.{Chosen}
+use Rattle.cfj_logic.specs.Selections.{Chosen}
 use Rattle.cfj_model.specs.Typing.{IsWellTyped}
-use Rattle.cfj_model.specs.UnitClauses.{Has}
+use Rattle.cfj_words.specs.Lists.{Has}
 use Rattle.unit_facts.specs.Diagnostics.{AreExact, BreaksIn, IsChecked, IsNever, IsValidFor}
 use Rattle.unit_facts.specs.declared.entry.Verdict.{Verdict}
 use Rattle.feature_views.proofs.Variants.{variant_is_project}
@@ -25,10 +25,10 @@ never_among line budget _ (AreExact.unbroken q ps _ none rest) p h = go (has_cas
     go (inr here) later = later here
 
 -- where nothing that is judged breaks, no pair is the first that does
-quiet : (table : Table) → ((j : Judged) → Has (judged table) j → Breaks table j.site j.rule → ⊥) → first_breaking table ≡ None
-quiet table never = ap (option_map pair_of) (none_find (λ (j : Judged). j.breaks) (judged table) (λ j h. false_from_ne_true j.breaks (breaks j h)))
+quiet : (table : Table) → ((j : RuleAt) → Has (judged table) j → Breaks table j.site j.rule → ⊥) → first_breaking table ≡ None
+quiet table never = ap (option_map pair_of) (none_find (λ (j : RuleAt). j.breaks) (judged table) (λ j h. false_from_ne_true j.breaks (breaks j h)))
   where
-    breaks : (j : Judged) → Has (judged table) j → j.breaks ≡ true → ⊥
+    breaks : (j : RuleAt) → Has (judged table) j → j.breaks ≡ true → ⊥
     breaks j h so = never j h (subst (λ (b : Bool). Has (judged table) (record { site = j.site; rule = j.rule; breaks = b })) so h)
 
 -- the variant of a valid selection is well typed

@@ -6,7 +6,7 @@ use Rattle.cfj_model.proofs.ExprCases.{Proved, args_of, by_cases}
 use Rattle.cfj_model.specs.Judging.{Pair, pairs_of}
 use Rattle.cfj_model.specs.ProductLines.{ProductLine}
 use Rattle.cfj_model.specs.Projection.{bare_field, bare_param, is_present, presence_of, projected, projected_class, projected_expr, projected_method}
-use Rattle.cfj_model.specs.Selections.{Chosen}
+use Rattle.cfj_logic.specs.Selections.{Chosen}
 use Rattle.cfj_model.specs.declared.class.Class.{Class}
 use Rattle.cfj_model.specs.declared.class.Method.{Method}
 use Rattle.cfj_model.specs.declared.expr.Arg.{Arg}

@@ -9,7 +9,7 @@
 
 ghost use Rattle.std.specs.Prelude.{ℕ, []};
 ghost use Rattle.cfj_model.specs.Projection.{projected};
-ghost use Rattle.cfj_model.specs.Selections.{Chosen};
+ghost use Rattle.cfj_logic.specs.Selections.{Chosen};
 ghost use Rattle.cfj_model.specs.Typing.{IsWellTyped};
 ghost use Rattle.unit_facts.specs.Diagnostics.{IsChecked, IsValidFor};
 ghost use Rattle.unit_facts.specs.declared.entry.Verdict.{Verdict};

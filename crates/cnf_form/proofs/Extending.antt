@@ -3,10 +3,10 @@ use Rattle.std.proofs.Common.{◌≡◌, ℕ, zero, suc, ◌+◌, ◌-◌, ◌<�
 use Rattle.std.proofs.lemmas.Bool.{cond-true, cond-false, eq-eqb, ne_eqb}
 use Rattle.std.proofs.lemmas.Bool.Decides.{nat_tests}
 use Rattle.std.proofs.lemmas.Option.{slice_get-get_or}
-use Rattle.cfj_model.specs.declared.clauses.Literal.{Literal}
-use Rattle.cfj_model.specs.declared.clauses.Clauses.{Clauses}
-use Rattle.cfj_model.specs.Selections.{Chosen, is_on}
-use Rattle.cfj_model.specs.Logs.{Assignment, IsModel, ExtendsToModel}
+use Rattle.cfj_logic.specs.declared.clauses.Literal.{Literal}
+use Rattle.cfj_logic.specs.declared.clauses.Clauses.{Clauses}
+use Rattle.cfj_logic.specs.Selections.{Chosen, is_on}
+use Rattle.cfj_logic.specs.Logs.{Assignment, IsModel, ExtendsToModel}
 use Rattle.cond_circuit.specs.Gates.{Gates, Stands, IsCircuit, value}
 use Rattle.cond_circuit.specs.declared.part.Part.{Part}
 use Rattle.cond_circuit.specs.declared.part.Part.TheVariants.{Zero, One, Feat, Not, And, Or}

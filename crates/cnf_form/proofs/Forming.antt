@@ -3,10 +3,10 @@ use Rattle.std.proofs.Common.{◌≡◌, ℕ, zero, suc, ◌+◌, ◌<◌, ◌�
 use Rattle.std.specs.Prelude.{All}
 use Rattle.std.proofs.lemmas.Bool.{cond-true, cond-false}
 use Rattle.std.proofs.lemmas.List.Elements.{All-append, All-cons}
-use Rattle.cfj_model.specs.declared.clauses.Literal.{Literal}
-use Rattle.cfj_model.specs.declared.clauses.Clauses.{Clauses}
-use Rattle.cfj_model.specs.Selections.{Chosen}
-use Rattle.cfj_model.specs.Logs.{AreBelow, AreWellFormed}
+use Rattle.cfj_logic.specs.declared.clauses.Literal.{Literal}
+use Rattle.cfj_logic.specs.declared.clauses.Clauses.{Clauses}
+use Rattle.cfj_logic.specs.Selections.{Chosen}
+use Rattle.cfj_logic.specs.Logs.{AreBelow, AreWellFormed}
 use Rattle.cond_circuit.specs.Gates.{Gates, IsCircuit}
 use Rattle.cond_circuit.specs.declared.part.Part.{Part}
 use Rattle.cond_circuit.specs.declared.part.Part.TheVariants.{Zero, One, Feat, Not, And, Or}

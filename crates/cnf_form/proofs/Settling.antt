@@ -1,11 +1,12 @@
 -- The clauses of a gate are settled by the features.
 use Rattle.std.proofs.Common.{◌≡◌, ℕ, zero, suc, ◌+◌, ◌<◌, ◌≤◌, ◌⊎◌, inl, inr, ◌↔◌, Bool, true, false, List, [], ◌∷◌, ◌++◌, length, Some, slice_get, refl, sym, ◌∙◌, ap, subst, arith}
 use Rattle.std.proofs.lemmas.Bool.{cond-true, cond-false}
-use Rattle.cfj_model.specs.declared.clauses.Literal.{Literal}
-use Rattle.cfj_model.specs.declared.clauses.Clauses.{Clauses}
-use Rattle.cfj_model.specs.Selections.{Chosen, is_on, choices}
-use Rattle.cfj_model.specs.UnitClauses.{Has, Values, value_of, IsFalse, with_true, Reaches, Leads}
-use Rattle.cfj_model.specs.Logs.{Assignment, IsModel, fixed, AreSettledByFeatures}
+use Rattle.cfj_logic.specs.declared.clauses.Literal.{Literal}
+use Rattle.cfj_logic.specs.declared.clauses.Clauses.{Clauses}
+use Rattle.cfj_logic.specs.Selections.{Chosen, is_on, choices}
+use Rattle.cfj_words.specs.Lists.{Has}
+use Rattle.cfj_logic.specs.UnitClauses.{Values, value_of, IsFalse, with_true, Reaches, Leads}
+use Rattle.cfj_logic.specs.Logs.{Assignment, IsModel, fixed, AreSettledByFeatures}
 use Rattle.cond_circuit.specs.Gates.{Gates, IsCircuit, value}
 use Rattle.cond_circuit.specs.declared.part.Part.{Part}
 use Rattle.cond_circuit.specs.declared.part.Part.TheVariants.{Zero, One, Feat, Not, And, Or}

@@ -1,7 +1,7 @@
 -- Whether clauses are true under an assignment, as tests, and what the clauses of a part say.
 use Rattle.std.proofs.Common.{◌≡◌, ℕ, zero, suc, Bool, true, false, not, ◌&&◌, ◌||◌, List, [], ◌∷◌, ◌++◌, Some, slice_get, refl, sym, ◌∙◌, ap, ap₂}
-use Rattle.cfj_model.specs.declared.clauses.Literal.{Literal}
-use Rattle.cfj_model.specs.Logs.{Assignment, IsTrueIn, IsModel}
+use Rattle.cfj_logic.specs.declared.clauses.Literal.{Literal}
+use Rattle.cfj_logic.specs.Logs.{Assignment, IsTrueIn, IsModel}
 use Rattle.cond_circuit.specs.declared.part.Part.{Part}
 use Rattle.cond_circuit.specs.declared.part.Part.TheVariants.{Zero, One, Feat, Not, And, Or}
 use Rattle.cnf_form.specs.GateClauses.{is_inner, part_clauses}

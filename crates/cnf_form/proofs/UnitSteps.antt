@@ -1,10 +1,11 @@
 -- Unit clauses give each gate's variable its value, from the features up.
 use Rattle.std.proofs.Common.{◌≡◌, ℕ, zero, suc, ◌+◌, ◌<◌, ◌≤◌, ◌⊎◌, inl, inr, Bool, true, false, not, ◌&&◌, ◌||◌, List, [], ◌∷◌, ◌++◌, length, Some, None, slice_get, refl, sym, ◌∙◌, ap, subst, arith, length-set}
 use Rattle.std.proofs.lemmas.List.{get_or-set_same, get_or-set_other}
-use Rattle.cfj_model.specs.declared.clauses.Literal.{Literal}
-use Rattle.cfj_model.specs.Selections.{Chosen, is_on, choices_from, choices}
-use Rattle.cfj_model.specs.UnitClauses.{Has, Values, value_of, IsFalse, with_true, IsUnit, Reaches}
-use Rattle.cfj_model.specs.Logs.{fixed}
+use Rattle.cfj_logic.specs.declared.clauses.Literal.{Literal}
+use Rattle.cfj_logic.specs.Selections.{Chosen, is_on, choices_from, choices}
+use Rattle.cfj_words.specs.Lists.{Has}
+use Rattle.cfj_logic.specs.UnitClauses.{Values, value_of, IsFalse, with_true, IsUnit, Reaches}
+use Rattle.cfj_logic.specs.Logs.{fixed}
 use Rattle.cond_circuit.specs.declared.part.Part.{Part}
 use Rattle.cond_circuit.specs.declared.part.Part.TheVariants.{Zero, One, Feat, Not, And, Or}
 use Rattle.cnf_form.specs.Reaching.{IsOperand}

@@ -1,6 +1,6 @@
 -- The clauses and variables written so far.
 use Rattle.std.proofs.Common.{◌≡◌, ℕ, zero, suc, ◌+◌, ◌<◌, ◌≤◌, Bool, true, false, ◌&&◌, cond, List, [], ◌∷◌, ◌++◌, length, get_or, refl, sym, ◌∙◌, ap, ap₂, arith, add-one, add_assoc, length-append, ◌⊎◌, inl, inr}
-use Rattle.cfj_model.specs.declared.clauses.Literal.{Literal}
+use Rattle.cfj_logic.specs.declared.clauses.Literal.{Literal}
 use Rattle.cond_circuit.specs.Gates.{Gates}
 use Rattle.cond_circuit.specs.declared.part.Part.{Part}
 use Rattle.cond_circuit.specs.declared.part.Part.TheVariants.{Zero, One, Feat, Not, And, Or}

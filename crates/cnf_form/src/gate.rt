@@ -1,12 +1,13 @@
 ghost use Rattle.std.specs.Prelude.{◌≡◌, ◌<◌, ◌≤◌, ◌↔◌, true, ◌+◌, [], ◌∷◌, length, IfOk, if◌then◌else◌};
-ghost use Rattle.cfj_model.specs.Logs.{AreSettledByFeatures, AreWellFormed, ExtendsToModel};
-ghost use Rattle.cfj_model.specs.Selections.{Chosen};
+ghost use Rattle.cfj_logic.specs.Logs.{AreSettledByFeatures, AreWellFormed, ExtendsToModel};
+ghost use Rattle.cfj_logic.specs.Selections.{Chosen};
 ghost use Rattle.cond_circuit.specs.Gates.{value};
 ghost use Rattle.cnf_form.specs.GateClauses.{AreClausesFor, AreClausesOf};
 
 use crate::literals::{add, add_gate, literal, own_variables, variable};
 use crate::marks::reached;
-use cfj_model::{Clauses, Items};
+use cfj_logic::Clauses;
+use cfj_words::Items;
 use cond_circuit::Circuit;
 use std::alloc::{AllocError, Global};
 

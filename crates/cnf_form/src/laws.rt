@@ -1,9 +1,9 @@
 ghost use Rattle.std.specs.Prelude.{◌≡◌, ◌<◌, ◌↔◌, length, true};
-ghost use Rattle.cfj_model.specs.Logs.{AreSettledByFeatures, ExtendsToModel};
+ghost use Rattle.cfj_logic.specs.Logs.{AreSettledByFeatures, ExtendsToModel};
 ghost use Rattle.cond_circuit.specs.Gates.{value};
 ghost use Rattle.cnf_form.specs.GateClauses.{AreClausesOf};
 
-use cfj_model::{Clauses, Selection};
+use cfj_logic::{Clauses, Selection};
 use cond_circuit::Circuit;
 
 /// A law: a selection extends to a model of a gate's clauses exactly where the gate is true under it.

@@ -2,7 +2,8 @@ ghost use Rattle.std.specs.Prelude.{if◌then◌else◌, ◌&&◌, ◌≡◌, �
 ghost use Rattle.cnf_form.specs.GateClauses as spec;
 ghost use Rattle.cnf_form.specs.Reaching.{AreBelow};
 
-use cfj_model::{Items, Literal};
+use cfj_logic::Literal;
+use cfj_words::Items;
 use cond_circuit::Part;
 use std::alloc::{AllocError, Global};
 

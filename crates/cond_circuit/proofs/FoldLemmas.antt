@@ -2,7 +2,7 @@
 use Rattle.std.proofs.Common.{◌≡◌, ℕ, ◌<◌, ◌≤◌, min, max, Bool, true, false, not, ◌&&◌, ◌||◌, ◌==◌, cond, ◌⊎◌, inl, inr, List, [], ◌∷◌, ◌++◌, length, Option, Some, None, slice_get, Result, Ok, Err, IfOk, length-append, refl, sym, ◌∙◌, ap, ap₂, subst, arith, zero, suc}
 use Rattle.std.proofs.lemmas.Bool.{eqb-true, eqb-false, cond_both}
 use Rattle.std.proofs.lemmas.Option.{slice_get_within}
-use Rattle.cfj_model.specs.Selections.{Chosen, is_on}
+use Rattle.cfj_logic.specs.Selections.{Chosen, is_on}
 use Rattle.cond_circuit.specs.declared.part.Part.{Part}
 use Rattle.cond_circuit.specs.declared.part.Part.TheVariants.{Zero, One, Feat, Not, And, Or}
 use Rattle.cond_circuit.specs.declared.folding.Folded.{Folded}

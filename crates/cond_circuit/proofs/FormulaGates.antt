@@ -1,10 +1,10 @@
 -- The gates of a formula's parts, taken together.
 use Rattle.std.proofs.Common.{◌≡◌, ℕ, ◌<◌, Bool, true, false, not, ◌&&◌, ◌||◌, cond, IsTrue, length, Result, Ok, Err, IfOk, refl, sym, ◌∙◌, ap, ap₂, subst}
-use Rattle.cfj_model.specs.declared.formula.Formula.{Formula}
-use Rattle.cfj_model.specs.declared.formula.Formula.TheVariants as f
-use Rattle.cfj_model.specs.Formulas.{truth, truth_step, is_over, is_over_step}
-use Rattle.cfj_model.specs.Selections.{Chosen}
-use Rattle.cfj_model.proofs.FormulaCases.{fold_and, fold_or, fold_implies, fold_iff}
+use Rattle.cfj_logic.specs.declared.formula.Formula.{Formula}
+use Rattle.cfj_logic.specs.declared.formula.Formula.TheVariants as f
+use Rattle.cfj_logic.specs.Formulas.{truth, truth_step, is_over, is_over_step}
+use Rattle.cfj_logic.specs.Selections.{Chosen}
+use Rattle.cfj_logic.proofs.FormulaCases.{fold_and, fold_or, fold_implies, fold_iff}
 use Rattle.cond_circuit.specs.Folding.{not_gate, and_gate, or_gate, implies_gate, iff_gate}
 use Rattle.cond_circuit.specs.Gates.{Gates, Grown, Is, value}
 use Rattle.cond_circuit.proofs.ValueLemmas.{Grown-trans, Grown-value, Is-grown}

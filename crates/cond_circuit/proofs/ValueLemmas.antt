@@ -3,7 +3,7 @@ use Rattle.std.proofs.Common.{◌≡◌, ℕ, ◌+◌, ◌<◌, Bool, true, fals
 use Rattle.std.proofs.lemmas.List.{get_or_append_left, append-nil, take_more, take-append-drop, length-take-le}
 use Rattle.std.proofs.lemmas.Option.{get_or_from_slice_get, slice_get_within}
 use Rattle.std.proofs.Math.Seq.{get_or-append_seam}
-use Rattle.cfj_model.specs.Selections.{Chosen, is_on}
+use Rattle.cfj_logic.specs.Selections.{Chosen, is_on}
 use Rattle.cond_circuit.specs.declared.part.Part.{Part}
 use Rattle.cond_circuit.specs.declared.part.Part.TheVariants.{Zero, One, Feat, Not, And, Or}
 use Rattle.cond_circuit.specs.Gates.{Gates, Stands, IsCircuit, part_value, values_behind, value, Grown, Is}

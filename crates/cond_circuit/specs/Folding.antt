@@ -1,9 +1,9 @@
 -- Which gate an operation gives: one that is there, or a new one behind all others.
 use Rattle.std.specs.Prelude.{ℕ, ◌<◌, min, max, Bool, true, false, ◌&&◌, ◌||◌, ◌==◌, if◌then◌else◌, List, [], ◌∷◌, ◌++◌, length, Option, Some, None, slice_index_or}
 use Rattle.std.specs.List.{position_from}
-use Rattle.cfj_model.specs.declared.formula.Formula.{Formula}
-use Rattle.cfj_model.specs.declared.formula.Formula.TheOpen.{Formula-F}
-use Rattle.cfj_model.specs.declared.formula.Formula.TheFolds.{fold-Formula}
+use Rattle.cfj_logic.specs.declared.formula.Formula.{Formula}
+use Rattle.cfj_logic.specs.declared.formula.Formula.TheOpen.{Formula-F}
+use Rattle.cfj_logic.specs.declared.formula.Formula.TheFolds.{fold-Formula}
 use Rattle.cond_circuit.specs.declared.part.Part.{Part}
 use Rattle.cond_circuit.specs.declared.part.Part.TheVariants.{Zero, One, Feat, Not, And, Or}
 use Rattle.cond_circuit.specs.declared.folding.Folded.{Folded}

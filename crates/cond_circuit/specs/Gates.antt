@@ -1,6 +1,6 @@
 -- Circuits: what they are, and what their gates are worth under a selection.
 use Rattle.std.specs.Prelude.{◌≡◌, ℕ, ◌<◌, ◌≤◌, Bool, true, false, not, ◌&&◌, ◌||◌, List, [], ◌∷◌, ◌++◌, length, Some, slice_get, slice_index_or}
-use Rattle.cfj_model.specs.Selections.{Chosen, is_on}
+use Rattle.cfj_logic.specs.Selections.{Chosen, is_on}
 use Rattle.cond_circuit.specs.declared.part.Part.{Part}
 use Rattle.cond_circuit.specs.declared.part.Part.TheVariants.{Zero, One, Feat, Not, And, Or}
 

@@ -1,13 +1,13 @@
 ghost use Rattle.std.specs.Prelude.{◌≡◌, ℕ, ◌<◌, ◌≤◌, ◌^◌, [], ◌∷◌, length, IfOk, OnErr, IsTrue, Some, not, ◌&&◌, ◌||◌, slice_get, if◌then◌else◌};
-ghost use Rattle.cfj_model.specs.Formulas.{truth, is_over};
-ghost use Rattle.cfj_model.specs.Selections.{is_on};
+ghost use Rattle.cfj_logic.specs.Formulas.{truth, is_over};
+ghost use Rattle.cfj_logic.specs.Selections.{is_on};
 ghost use Rattle.cond_circuit.specs.Folding as fold;
 ghost use Rattle.cond_circuit.specs.Gates.{Stands, IsCircuit, Grown, Is, value};
 
 use crate::folding::{Folded, fold_and, fold_not, fold_or};
 use crate::index::{append, gate_of};
 use crate::part::Part;
-use cfj_model::{Formula, Selection};
+use cfj_logic::{Formula, Selection};
 use std::alloc::{AllocError, Global};
 use std::collections::BTreeMap;
 use std::marker::Model;

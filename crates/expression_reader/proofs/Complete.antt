@@ -5,8 +5,8 @@ use Rattle.cfj_model.specs.declared.expr.Arg.{Arg}
 use Rattle.cfj_model.specs.declared.expr.Expr.{Expr}
 use Rattle.cfj_model.specs.declared.expr.Expr.TheVariants as e
 use Rattle.cfj_model.specs.Marks.{spell_marks, roles_marks, color_of, colored, colors_of}
-use Rattle.cfj_model.specs.Tokens.{Token, CloseParen, Comma, Dot, Semicolon}
-use Rattle.cfj_model.specs.Roles.{Role, casts, node, opens, plain, used_name, var_name, mark_name}
+use Rattle.cfj_words.specs.Tokens.{Token, CloseParen, Comma, Dot, Semicolon}
+use Rattle.cfj_model.specs.Roles.{Role, casts, node, opens, other_token, used_name, var_name, mark_name}
 use Rattle.cfj_model.specs.ExpressionGrammar.{ExprTree, cast, chain, StartTree, variable, this_word, made, bracket, StepsTree, stop, get, call, ArgsTree, no_args, first_arg, MoreArgsTree, no_more, next_arg, spell_expr, spell_start, spell_steps, spell_args, spell_more_args, roles_expr, roles_start, roles_steps, roles_args, roles_more_args, value_expr, value_start, value_steps, value_args, value_more_args}
 use Rattle.expression_reader.specs.declared.frame.Frame.{Frame}
 use Rattle.expression_reader.specs.declared.frame.Frame.TheVariants.{InBracket, InCast, InArgs}
@@ -68,19 +68,19 @@ member_follows fs ts (ends h) f frames x n = member_ends fs ts h f frames x n
 
 -- the roles of a bracket with a variable
 abbrev pub bracketed : ℕ → List ℕ → List Role
-bracketed d w = opens (d + 1) ∷ (var_name w ∷ (plain ∷ []))
+bracketed d w = opens (d + 1) ∷ (var_name w ∷ (other_token ∷ []))
 
 -- and of the three tokens that begin a cast
 abbrev pub cast_to : ℕ → List ℕ → List Role
-cast_to d w = casts (d + 1) ∷ (used_name w ∷ (plain ∷ []))
+cast_to d w = casts (d + 1) ∷ (used_name w ∷ (other_token ∷ []))
 
 -- A name in a bracket that nothing follows is a variable.
 pub closed_ends : (fs : List (List ℕ)) (ts : List Token) → Ends ts → (w : List ℕ) (frames : List Frame) (n : ℕ) →
     run fs ts (at frames (ParenClosed w) n) ≡ with_roles (bracketed (open_frames frames) w) (run fs ts (at frames (After (e.Var n w)) (n + 1)))
 unfolding run
-closed_ends fs _ (at_close ts) w frames n = then_with (run fs ts) (bracketed (open_frames frames) w) (plain ∷ []) _
-closed_ends fs _ (at_comma ts) w frames n = then_with (run fs ts) (bracketed (open_frames frames) w) (plain ∷ []) _
-closed_ends fs _ (at_semicolon ts) w frames n = then_with (run fs ts) (bracketed (open_frames frames) w) (plain ∷ []) _
+closed_ends fs _ (at_close ts) w frames n = then_with (run fs ts) (bracketed (open_frames frames) w) (other_token ∷ []) _
+closed_ends fs _ (at_comma ts) w frames n = then_with (run fs ts) (bracketed (open_frames frames) w) (other_token ∷ []) _
+closed_ends fs _ (at_semicolon ts) w frames n = then_with (run fs ts) (bracketed (open_frames frames) w) (other_token ∷ []) _
 
 closed_follows : (fs : List (List ℕ)) (ts : List Token) → Follows ts → (w : List ℕ) (frames : List Frame) (n : ℕ) →
     run fs ts (at frames (ParenClosed w) n) ≡ with_roles (bracketed (open_frames frames) w) (run fs ts (at frames (After (e.Var n w)) (n + 1)))
@@ -123,7 +123,7 @@ marks_run : (fs ms : List (List ℕ)) (ts : List Token) (h : Head) (before : Lis
     run fs (spell_marks ms ts) (at frames (InMarks h before colors) n) ≡ on_roles (roles_marks ms) (run fs ts (at frames (InMarks h before (colored fs colors ms)) n))
 unfolding run
 marks_run fs [] ts h before colors frames n = refl
-marks_run fs (m ∷ ms) ts h before colors frames n = ap (with_roles (plain ∷ (mark_name m ∷ []))) (marks_run fs ms ts h before (bit_or colors (color_of fs m)) frames n)
+marks_run fs (m ∷ ms) ts h before colors frames n = ap (with_roles (other_token ∷ (mark_name m ∷ []))) (marks_run fs ms ts h before (bit_or colors (color_of fs m)) frames n)
 
 -- A bracket begins.
 begins_bracket : (fs : List (List ℕ)) (t : ExprTree) (ts : List Token) → Follows ts → (frames : List Frame) (n : ℕ) →
@@ -142,9 +142,9 @@ arg_runs : (fs ms : List (List ℕ)) (t : ExprTree) (more : MoreArgsTree) (ts : 
     run fs (spell_expr t (spell_more_args more (CloseParen ∷ ts))) (at (InArgs h before (colors_of fs ms) ∷ frames) Begin n)
     ≡ on_roles (roles_expr (open_frames frames + 1) t) (run fs (spell_more_args more (CloseParen ∷ ts)) (at (InArgs h before (colors_of fs ms) ∷ frames) (After (value_expr fs n t).0) (value_expr fs n t).1)) →
     run fs (spell_more_args more (CloseParen ∷ ts)) (at (InArgs h before (colors_of fs ms) ∷ frames) (After (value_expr fs n t).0) (value_expr fs n t).1)
-    ≡ on_roles (λ q. roles_more_args (open_frames frames + 1) more (plain ∷ q)) o →
+    ≡ on_roles (λ q. roles_more_args (open_frames frames + 1) more (other_token ∷ q)) o →
     run fs (spell_marks ms (spell_expr t (spell_more_args more (CloseParen ∷ ts)))) (at frames (InMarks h before 0) n)
-    ≡ on_roles (λ q. roles_marks ms (roles_expr (open_frames frames + 1) t (roles_more_args (open_frames frames + 1) more (plain ∷ q)))) o
+    ≡ on_roles (λ q. roles_marks ms (roles_expr (open_frames frames + 1) t (roles_more_args (open_frames frames + 1) more (other_token ∷ q)))) o
 arg_runs fs ms t more ts h before frames n o tree rest =
     marks_run fs ms (spell_expr t (spell_more_args more (CloseParen ∷ ts))) h before 0 frames n
     ∙ ap (on_roles (roles_marks ms)) (begins_arg fs t (spell_more_args more (CloseParen ∷ ts)) h before (colors_of fs ms) frames n ∙ tree ∙ ap (on_roles (roles_expr (open_frames frames + 1) t)) rest)
@@ -180,11 +180,11 @@ mutual
   steps_run fs (call m args ss) ts h frames x n =
       ap (with_roles (node ∷ (used_name m ∷ (opens (open_frames frames + 1) ∷ []))))
       (args_run fs args (spell_steps ss ts) (OfCall n x m) frames (n + 1)
-      ∙ ap (on_roles (λ q. roles_args (open_frames frames + 1) args (plain ∷ q))) (steps_run fs ss ts h frames _ _))
+      ∙ ap (on_roles (λ q. roles_args (open_frames frames + 1) args (other_token ∷ q))) (steps_run fs ss ts h frames _ _))
 
   args_run : (fs : List (List ℕ)) (args : ArgsTree) (ts : List Token) (h : Head) (frames : List Frame) (n : ℕ) →
       run fs (spell_args args (CloseParen ∷ ts)) (at frames (FirstArg h) n)
-      ≡ on_roles (λ q. roles_args (open_frames frames + 1) args (plain ∷ q)) (run fs ts (at frames (After (applied h (value_args fs n args).0)) (value_args fs n args).1))
+      ≡ on_roles (λ q. roles_args (open_frames frames + 1) args (other_token ∷ q)) (run fs ts (at frames (After (applied h (value_args fs n args).0)) (value_args fs n args).1))
   args_run fs no_args ts h frames n = refl
   args_run fs (first_arg ms t more) ts h frames n =
       begins_first fs ms t (spell_more_args more (CloseParen ∷ ts)) h frames n
@@ -192,13 +192,13 @@ mutual
 
   more_run : (fs : List (List ℕ)) (more : MoreArgsTree) (ts : List Token) (h : Head) (before : List Arg) (colors : ℕ) (frames : List Frame) (x : Expr) (n : ℕ) →
       run fs (spell_more_args more (CloseParen ∷ ts)) (at (InArgs h before colors ∷ frames) (After x) n)
-      ≡ on_roles (λ q. roles_more_args (open_frames frames + 1) more (plain ∷ q)) (run fs ts (at frames (After (applied h (value_more_args fs n (before ++ colored_arg colors x ∷ []) more).0)) (value_more_args fs n (before ++ colored_arg colors x ∷ []) more).1))
+      ≡ on_roles (λ q. roles_more_args (open_frames frames + 1) more (other_token ∷ q)) (run fs ts (at frames (After (applied h (value_more_args fs n (before ++ colored_arg colors x ∷ []) more).0)) (value_more_args fs n (before ++ colored_arg colors x ∷ []) more).1))
   more_run fs no_more ts h before colors frames x n = refl
   more_run fs (next_arg ms t more) ts h before colors frames x n =
-      ap (with_roles (plain ∷ []))
+      ap (with_roles (other_token ∷ []))
       (arg_runs fs ms t more ts h (before ++ colored_arg colors x ∷ []) frames n _ (expr_runs fs t (spell_more_args more (CloseParen ∷ ts)) (ends_more more ts) (InArgs h (before ++ colored_arg colors x ∷ []) (colors_of fs ms) ∷ frames) n) (more_run fs more ts h (before ++ colored_arg colors x ∷ []) (colors_of fs ms) frames (value_expr fs n t).0 (value_expr fs n t).1))
 
 -- The whole text of a tree, with the token behind it, is read as the tree's expression, in the tree's roles.
-pub text_runs : (fs : List (List ℕ)) (x : ExprTree) → run fs (spell_expr x (Semicolon ∷ [])) start ≡ (Some (done (value_expr fs 0 x).0), roles_expr 0 x (plain ∷ []))
+pub text_runs : (fs : List (List ℕ)) (x : ExprTree) → run fs (spell_expr x (Semicolon ∷ [])) start ≡ (Some (done (value_expr fs 0 x).0), roles_expr 0 x (other_token ∷ []))
 unfolding run
 text_runs fs x = expr_runs fs x (Semicolon ∷ []) (at_semicolon []) [] 0

@@ -4,7 +4,7 @@ use Rattle.std.specs.Prelude.{bit_or}
 use Rattle.cfj_model.specs.declared.expr.Expr.{Expr}
 use Rattle.cfj_model.specs.declared.expr.Expr.TheVariants as e
 use Rattle.cfj_model.specs.Marks.{color_of}
-use Rattle.cfj_model.specs.Tokens.{Token, Id, OpenParen, CloseParen, At, Semicolon}
+use Rattle.cfj_words.specs.Tokens.{Token, Id, OpenParen, CloseParen, At, Semicolon}
 use Rattle.cfj_model.specs.Roles.{Role}
 use Rattle.expression_reader.specs.declared.frame.Frame.{Frame}
 use Rattle.expression_reader.specs.declared.frame.Frame.TheVariants.{InBracket, InCast, InArgs}

@@ -2,8 +2,8 @@
 use Rattle.std.proofs.Common.{◌≡◌, ℕ, ◌+◌, ◌≤◌, true, List, [], ◌∷◌, ◌++◌, length, refl, ◌∙◌, ap, arith}
 use Rattle.std.proofs.lemmas.Bool.{and_from, le-leb}
 use Rattle.cfj_model.specs.Marks.{spell_marks, roles_marks}
-use Rattle.cfj_model.specs.Tokens.{Token, Id, NewWord, OpenParen, CloseParen, Comma, Dot, At}
-use Rattle.cfj_model.specs.Roles.{Role, casts, node, opens, plain, used_name, mark_name, are_settled}
+use Rattle.cfj_words.specs.Tokens.{Token, Id, NewWord, OpenParen, CloseParen, Comma, Dot, At}
+use Rattle.cfj_model.specs.Roles.{Role, casts, node, opens, other_token, used_name, mark_name, are_settled}
 use Rattle.cfj_model.specs.ExpressionGrammar.{ExprTree, cast, chain, StartTree, variable, this_word, made, bracket, StepsTree, stop, get, call, ArgsTree, no_args, first_arg, MoreArgsTree, no_more, next_arg, spell_expr, spell_start, spell_steps, spell_args, spell_more_args, roles_expr, roles_start, roles_steps, roles_args, roles_more_args}
 
 -- ---- a longer text
@@ -39,24 +39,24 @@ mutual
 
 mark_roles_before : (ms : List (List ℕ)) (us rest : List Role) → roles_marks ms us ++ rest ≡ roles_marks ms (us ++ rest)
 mark_roles_before [] us rest = refl
-mark_roles_before (m ∷ ms) us rest = ap (λ w. plain ∷ (mark_name m ∷ w)) (mark_roles_before ms us rest)
+mark_roles_before (m ∷ ms) us rest = ap (λ w. other_token ∷ (mark_name m ∷ w)) (mark_roles_before ms us rest)
 
 mutual
   -- What follows a tree's roles may be longer.
   pub roles_before : (d : ℕ) (x : ExprTree) (us rest : List Role) → roles_expr d x us ++ rest ≡ roles_expr d x (us ++ rest)
-  roles_before d (cast c t) us rest = ap (λ w. casts (d + 1) ∷ (used_name c ∷ (plain ∷ w))) (roles_before (d + 1) t us rest)
+  roles_before d (cast c t) us rest = ap (λ w. casts (d + 1) ∷ (used_name c ∷ (other_token ∷ w))) (roles_before (d + 1) t us rest)
   roles_before d (chain s ss) us rest = start_roles_before d s (roles_steps d ss us) rest ∙ ap (roles_start d s) (steps_roles_before d ss us rest)
 
   start_roles_before : (d : ℕ) (s : StartTree) (us rest : List Role) → roles_start d s us ++ rest ≡ roles_start d s (us ++ rest)
   start_roles_before d (variable w) us rest = refl
   start_roles_before d this_word us rest = refl
-  start_roles_before d (made c args) us rest = ap (λ w. node ∷ (used_name c ∷ (opens (d + 1) ∷ w))) (args_roles_before (d + 1) args (plain ∷ us) rest)
-  start_roles_before d (bracket t) us rest = ap (λ w. opens (d + 1) ∷ w) (roles_before (d + 1) t (plain ∷ us) rest)
+  start_roles_before d (made c args) us rest = ap (λ w. node ∷ (used_name c ∷ (opens (d + 1) ∷ w))) (args_roles_before (d + 1) args (other_token ∷ us) rest)
+  start_roles_before d (bracket t) us rest = ap (λ w. opens (d + 1) ∷ w) (roles_before (d + 1) t (other_token ∷ us) rest)
 
   steps_roles_before : (d : ℕ) (ss : StepsTree) (us rest : List Role) → roles_steps d ss us ++ rest ≡ roles_steps d ss (us ++ rest)
   steps_roles_before d stop us rest = refl
   steps_roles_before d (get f ss) us rest = ap (λ w. node ∷ (used_name f ∷ w)) (steps_roles_before d ss us rest)
-  steps_roles_before d (call m args ss) us rest = ap (λ w. node ∷ (used_name m ∷ (opens (d + 1) ∷ w))) (args_roles_before (d + 1) args (plain ∷ roles_steps d ss us) rest ∙ ap (λ w. roles_args (d + 1) args (plain ∷ w)) (steps_roles_before d ss us rest))
+  steps_roles_before d (call m args ss) us rest = ap (λ w. node ∷ (used_name m ∷ (opens (d + 1) ∷ w))) (args_roles_before (d + 1) args (other_token ∷ roles_steps d ss us) rest ∙ ap (λ w. roles_args (d + 1) args (other_token ∷ w)) (steps_roles_before d ss us rest))
 
   args_roles_before : (d : ℕ) (args : ArgsTree) (us rest : List Role) → roles_args d args us ++ rest ≡ roles_args d args (us ++ rest)
   args_roles_before d no_args us rest = refl
@@ -64,7 +64,7 @@ mutual
 
   more_roles_before : (d : ℕ) (more : MoreArgsTree) (us rest : List Role) → roles_more_args d more us ++ rest ≡ roles_more_args d more (us ++ rest)
   more_roles_before d no_more us rest = refl
-  more_roles_before d (next_arg ms t more) us rest = ap (λ w. plain ∷ w) (mark_roles_before ms (roles_expr d t (roles_more_args d more us)) rest ∙ ap (roles_marks ms) (roles_before d t (roles_more_args d more us) rest ∙ ap (roles_expr d t) (more_roles_before d more us rest)))
+  more_roles_before d (next_arg ms t more) us rest = ap (λ w. other_token ∷ w) (mark_roles_before ms (roles_expr d t (roles_more_args d more us)) rest ∙ ap (roles_marks ms) (roles_before d t (roles_more_args d more us) rest ∙ ap (roles_expr d t) (more_roles_before d more us rest)))
 
 -- ---- as many roles as tokens
 
@@ -82,17 +82,17 @@ mutual
   expr_fixed : (d : ℕ) (x : ExprTree) (rest : List Role) (k : ℕ) → Fixed rest k → Fixed (roles_expr d x rest) (k + 1)
   expr_fixed d (cast c t) rest k h =
       let g = expr_fixed (d + 1) t rest k h in
-      record { settled = and_from _ _ (le-leb 3 (length (used_name c ∷ (plain ∷ roles_expr (d + 1) t rest))) (omega (arith, g.enough))) g.settled; enough = omega (arith, g.enough) }
+      record { settled = and_from _ _ (le-leb 3 (length (used_name c ∷ (other_token ∷ roles_expr (d + 1) t rest))) (omega (arith, g.enough))) g.settled; enough = omega (arith, g.enough) }
   expr_fixed d (chain s ss) rest k h = start_fixed d s (roles_steps d ss rest) k (steps_fixed d ss rest k h)
 
   start_fixed : (d : ℕ) (s : StartTree) (rest : List Role) (k : ℕ) → Fixed rest k → Fixed (roles_start d s rest) (k + 1)
   start_fixed d (variable w) rest k h = record { settled = h.settled; enough = omega (arith, h.enough) }
   start_fixed d this_word rest k h = record { settled = h.settled; enough = omega (arith, h.enough) }
   start_fixed d (made c args) rest k h =
-      let g = args_fixed (d + 1) args (plain ∷ rest) k (record { settled = h.settled; enough = omega (arith, h.enough) }) in
+      let g = args_fixed (d + 1) args (other_token ∷ rest) k (record { settled = h.settled; enough = omega (arith, h.enough) }) in
       record { settled = g.settled; enough = omega (arith, g.enough) }
   start_fixed d (bracket t) rest k h =
-      let g = expr_fixed (d + 1) t (plain ∷ rest) k (record { settled = h.settled; enough = omega (arith, h.enough) }) in
+      let g = expr_fixed (d + 1) t (other_token ∷ rest) k (record { settled = h.settled; enough = omega (arith, h.enough) }) in
       record { settled = g.settled; enough = omega (arith, g.enough) }
 
   steps_fixed : (d : ℕ) (ss : StepsTree) (rest : List Role) (k : ℕ) → Fixed rest k → Fixed (roles_steps d ss rest) k
@@ -100,7 +100,7 @@ mutual
   steps_fixed d (get f ss) rest k h = let g = steps_fixed d ss rest k h in record { settled = g.settled; enough = omega (arith, g.enough) }
   steps_fixed d (call m args ss) rest k h =
       let b = steps_fixed d ss rest k h in
-      let g = args_fixed (d + 1) args (plain ∷ roles_steps d ss rest) k (record { settled = b.settled; enough = omega (arith, b.enough) }) in
+      let g = args_fixed (d + 1) args (other_token ∷ roles_steps d ss rest) k (record { settled = b.settled; enough = omega (arith, b.enough) }) in
       record { settled = g.settled; enough = omega (arith, g.enough) }
 
   args_fixed : (d : ℕ) (args : ArgsTree) (rest : List Role) (k : ℕ) → Fixed rest k → Fixed (roles_args d args rest) k

@@ -5,8 +5,8 @@ use Rattle.std.specs.List.{list_all}
 use Rattle.std.proofs.lemmas.Bool.{and_from, and_parts, le-leb}
 use Rattle.cfj_model.specs.declared.expr.Expr.{Expr}
 use Rattle.cfj_model.specs.declared.expr.Expr.TheVariants as e
-use Rattle.cfj_model.specs.Tokens.{Token, Id, NewWord, ThisWord, OpenParen, CloseParen, Comma, Dot, At, Semicolon}
-use Rattle.cfj_model.specs.Roles.{Role, casts, node, opens, plain, used_name, var_name, mark_name, is_settled, are_settled, Tally, counted, tallied}
+use Rattle.cfj_words.specs.Tokens.{Token, Id, NewWord, ThisWord, OpenParen, CloseParen, Comma, Dot, At, Semicolon}
+use Rattle.cfj_model.specs.Roles.{Role, casts, node, opens, other_token, used_name, var_name, mark_name, is_settled, are_settled, Tally, counted, tallied}
 use Rattle.expression_reader.specs.declared.frame.Frame.{Frame}
 use Rattle.expression_reader.specs.declared.frame.Frame.TheVariants.{InBracket, InCast, InArgs}
 use Rattle.expression_reader.specs.declared.mode.Mode.{Mode}
@@ -54,10 +54,10 @@ emitted_settled (ParenName w) frames n ThisWord rest le h = h
 emitted_settled (ParenName w) frames n NewWord rest le h = h
 emitted_settled (ParenName w) frames n Dot rest le h = h
 emitted_settled (ParenName w) frames n _ rest le h = h
-emitted_settled (ParenClosed w) frames n (Id v) rest le h = and_from _ _ (le-leb 3 (length (used_name w ∷ (plain ∷ (var_name v ∷ rest)))) (omega arith)) h
-emitted_settled (ParenClosed w) frames n ThisWord rest le h = and_from _ _ (le-leb 3 (length (used_name w ∷ (plain ∷ (node ∷ rest)))) (omega arith)) h
-emitted_settled (ParenClosed w) frames n NewWord rest le h = and_from _ _ (le-leb 3 (length (used_name w ∷ (plain ∷ (node ∷ rest)))) (omega arith)) h
-emitted_settled (ParenClosed w) frames n OpenParen rest le h = and_from _ _ (le-leb 3 (length (used_name w ∷ (plain ∷ rest))) (omega (arith, le))) h
+emitted_settled (ParenClosed w) frames n (Id v) rest le h = and_from _ _ (le-leb 3 (length (used_name w ∷ (other_token ∷ (var_name v ∷ rest)))) (omega arith)) h
+emitted_settled (ParenClosed w) frames n ThisWord rest le h = and_from _ _ (le-leb 3 (length (used_name w ∷ (other_token ∷ (node ∷ rest)))) (omega arith)) h
+emitted_settled (ParenClosed w) frames n NewWord rest le h = and_from _ _ (le-leb 3 (length (used_name w ∷ (other_token ∷ (node ∷ rest)))) (omega arith)) h
+emitted_settled (ParenClosed w) frames n OpenParen rest le h = and_from _ _ (le-leb 3 (length (used_name w ∷ (other_token ∷ rest))) (omega (arith, le))) h
 emitted_settled (ParenClosed w) frames n Dot rest le h = h
 emitted_settled (ParenClosed w) frames n _ rest le h = h
 emitted_settled Begin frames n t rest le h = unless_settled (waits_in Begin t) _ rest (role_settled Begin _ t rest) h
@@ -241,7 +241,7 @@ one_counted t (mark_name w) h = omega arith
 one_counted t (opens d) h = omega arith
 one_counted t (casts d) h = refl
 one_counted t node h = refl
-one_counted t plain h = omega arith
+one_counted t other_token h = omega arith
 one_counted t _ h = absurd (let no : ⊥ = cc h in no)
 
 nodes_counted : (t : Tally) (rs : List Role) → are_of_body rs ≡ true → (tallied t rs).nodes ≡ t.nodes + nodes_in rs

@@ -1,7 +1,7 @@
 -- A run to the end: how its roles begin where tokens wait, and that it has an expression.
 use Rattle.std.proofs.Common.{◌≡◌, ℕ, ◌+◌, ◌≤◌, true, List, [], ◌∷◌, ◌++◌, length, Some, refl, sym, ◌∙◌, ap, subst, arith}
 use Rattle.cfj_model.specs.declared.expr.Expr.{Expr}
-use Rattle.cfj_model.specs.Tokens.{Token}
+use Rattle.cfj_words.specs.Tokens.{Token}
 use Rattle.cfj_model.specs.Roles.{Role, casts}
 use Rattle.expression_reader.specs.declared.mode.Mode.{Mode}
 use Rattle.expression_reader.specs.declared.mode.Mode.TheVariants.{Paren, ParenName, ParenClosed, Done}

@@ -11,12 +11,12 @@ use Rattle.cfj_model.specs.declared.expr.Expr.TheVariants as e
 use Rattle.cfj_model.specs.declared.fault.FaultKind.{FaultKind}
 use Rattle.cfj_model.specs.declared.fault.FaultKind.TheVariants.{Limit}
 use Rattle.cfj_model.specs.declared.fault.LimitKind.TheVariants as limit
-use Rattle.cfj_model.specs.Names.{is_identifier, is_short_identifier}
+use Rattle.cfj_words.specs.Names.{is_identifier, is_short_identifier}
 use Rattle.cfj_model.specs.Expressions.{are_known, node_count}
 use Rattle.cfj_model.specs.Marks.{spell_marks, roles_marks, color_at, color_of, colored, colors_of}
 use Rattle.cfj_model.specs.ProductLines.{most_nest, most_nodes, most_size}
-use Rattle.cfj_model.specs.Tokens.{Token, Id, ThisWord, OpenParen, CloseParen, Dot}
-use Rattle.cfj_model.specs.Roles.{Role, node, opens, plain, used_name, var_name, Tally, first_of, is_long, past_nest, past_nodes, past_size, broken_by, AreWithin}
+use Rattle.cfj_words.specs.Tokens.{Token, Id, ThisWord, OpenParen, CloseParen, Dot}
+use Rattle.cfj_model.specs.Roles.{Role, node, opens, other_token, used_name, var_name, Tally, first_of, is_long, past_nest, past_nodes, past_size, broken_by, AreWithin}
 use Rattle.cfj_model.specs.ExpressionGrammar.{ExprTree, cast, chain, StartTree, variable, this_word, made, bracket, StepsTree, stop, get, call, ArgsTree, no_args, first_arg, MoreArgsTree, no_more, next_arg, spell_expr, spell_start, spell_steps, spell_args, spell_more_args, roles_expr, roles_start, roles_steps, roles_args, roles_more_args, value_expr, value_start, value_steps, value_args, value_more_args}
 use Rattle.fj_symbols.specs.Views.{are_read}
 use Rattle.expression_reader.specs.Laws.{IsKept}
@@ -157,8 +157,8 @@ cast_kept fs t d n c x rest more h inner =
       behind = record { marks = k.behind.marks; nodes = k.behind.nodes; size = k.behind.size; nodes_rise = omega (arith, k.behind.nodes_rise); size_rises = omega (arith, k.behind.size_rises); few = k.behind.few; small = k.behind.small; within = k.behind.within; read = k.behind.read };
     }
 
-bracket_kept : (fs : List (List ℕ)) (t : Tally) (d n : ℕ) (x : ExprTree) (rest : List Role) (more : List Token) → Before t d (opens (d + 1) ∷ roles_expr (d + 1) x (plain ∷ rest)) (OpenParen ∷ spell_expr x (CloseParen ∷ more)) →
-    ((u : Tally) → Before u (d + 1) (roles_expr (d + 1) x (plain ∷ rest)) (spell_expr x (CloseParen ∷ more)) → ExprKept fs u (d + 1) n (value_expr fs n x).1 (value_expr fs n x).0 (plain ∷ rest) (CloseParen ∷ more)) →
+bracket_kept : (fs : List (List ℕ)) (t : Tally) (d n : ℕ) (x : ExprTree) (rest : List Role) (more : List Token) → Before t d (opens (d + 1) ∷ roles_expr (d + 1) x (other_token ∷ rest)) (OpenParen ∷ spell_expr x (CloseParen ∷ more)) →
+    ((u : Tally) → Before u (d + 1) (roles_expr (d + 1) x (other_token ∷ rest)) (spell_expr x (CloseParen ∷ more)) → ExprKept fs u (d + 1) n (value_expr fs n x).1 (value_expr fs n x).0 (other_token ∷ rest) (CloseParen ∷ more)) →
     ChainKept fs t d n n (value_expr fs n x).1 (value_expr fs n x).0 rest more
 bracket_kept fs t d n x rest more h inner =
     let a = nests (d + 1) [] h.within.0 in
@@ -173,7 +173,7 @@ abbrev opened : Tally → Tally
 opened t = record t { marks = [] }
 
 new_kept : (fs : List (List ℕ)) (t : Tally) (d n : ℕ) (c : List ℕ) (args : ArgsTree) (rest : List Role) (more : List Token) → Before t d (roles_start d (made c args) rest) (spell_start (made c args) more) →
-    ((u : Tally) → Before u (d + 1) (roles_args (d + 1) args (plain ∷ rest)) (spell_args args (CloseParen ∷ more)) → ArgsKept fs u (d + 1) (n + 1) (n + 1) (value_args fs (n + 1) args).1 (value_args fs (n + 1) args).0 (plain ∷ rest) (CloseParen ∷ more)) →
+    ((u : Tally) → Before u (d + 1) (roles_args (d + 1) args (other_token ∷ rest)) (spell_args args (CloseParen ∷ more)) → ArgsKept fs u (d + 1) (n + 1) (n + 1) (value_args fs (n + 1) args).1 (value_args fs (n + 1) args).0 (other_token ∷ rest) (CloseParen ∷ more)) →
     ChainKept fs t d n n (value_args fs (n + 1) args).1 (e.New n c (value_args fs (n + 1) args).0) rest more
 new_kept fs t d n c args rest more h inner =
     let r : Room t = room t h.within.0 in
@@ -195,8 +195,8 @@ get_kept fs t d from n x f rest more k h =
     }
 
 call_kept : (fs : List (List ℕ)) (t : Tally) (d from n : ℕ) (x : Expr) (m : List ℕ) (args : ArgsTree) (rest : List Role) (more : List Token) → Chain (length fs) from n d x →
-    Before t d (node ∷ (used_name m ∷ (opens (d + 1) ∷ roles_args (d + 1) args (plain ∷ rest)))) (Dot ∷ (Id m ∷ (OpenParen ∷ spell_args args (CloseParen ∷ more)))) →
-    ((u : Tally) → Before u (d + 1) (roles_args (d + 1) args (plain ∷ rest)) (spell_args args (CloseParen ∷ more)) → ArgsKept fs u (d + 1) (n + 1) (n + 1) (value_args fs (n + 1) args).1 (value_args fs (n + 1) args).0 (plain ∷ rest) (CloseParen ∷ more)) →
+    Before t d (node ∷ (used_name m ∷ (opens (d + 1) ∷ roles_args (d + 1) args (other_token ∷ rest)))) (Dot ∷ (Id m ∷ (OpenParen ∷ spell_args args (CloseParen ∷ more)))) →
+    ((u : Tally) → Before u (d + 1) (roles_args (d + 1) args (other_token ∷ rest)) (spell_args args (CloseParen ∷ more)) → ArgsKept fs u (d + 1) (n + 1) (n + 1) (value_args fs (n + 1) args).1 (value_args fs (n + 1) args).0 (other_token ∷ rest) (CloseParen ∷ more)) →
     ChainKept fs t d from n (value_args fs (n + 1) args).1 (e.Call n x m (value_args fs (n + 1) args).0) rest more
 call_kept fs t d from n x m args rest more before h inner =
     let r : Room t = room t h.within.0 in
@@ -232,8 +232,8 @@ mutual
   start_kept : (fs : List (List ℕ)) (t : Tally) (d n : ℕ) (s : StartTree) (rest : List Role) (more : List Token) → Before t d (roles_start d s rest) (spell_start s more) → ChainKept fs t d n n (value_start fs n s).1 (value_start fs n s).0 rest more
   start_kept fs t d n (variable w) rest more h = variable_kept fs t d n w rest more h
   start_kept fs t d n this_word rest more h = this_kept fs t d n rest more h
-  start_kept fs t d n (made c args) rest more h = new_kept fs t d n c args rest more h (λ u b. args_kept fs u (d + 1) (n + 1) args (plain ∷ rest) (CloseParen ∷ more) b)
-  start_kept fs t d n (bracket x) rest more h = bracket_kept fs t d n x rest more h (λ u b. expr_kept fs u (d + 1) n x (plain ∷ rest) (CloseParen ∷ more) b)
+  start_kept fs t d n (made c args) rest more h = new_kept fs t d n c args rest more h (λ u b. args_kept fs u (d + 1) (n + 1) args (other_token ∷ rest) (CloseParen ∷ more) b)
+  start_kept fs t d n (bracket x) rest more h = bracket_kept fs t d n x rest more h (λ u b. expr_kept fs u (d + 1) n x (other_token ∷ rest) (CloseParen ∷ more) b)
 
   -- the steps of a chain, from what stands before them on
   steps_kept : (fs : List (List ℕ)) (t : Tally) (d from n : ℕ) (x : Expr) (ss : StepsTree) (rest : List Role) (more : List Token) → Chain (length fs) from n d x → Before t d (roles_steps d ss rest) (spell_steps ss more) → ChainKept fs t d from n (value_steps fs n x ss).1 (value_steps fs n x ss).0 rest more
@@ -243,7 +243,7 @@ mutual
       let b = steps_kept fs (record t { marks = a.behind.marks; nodes = a.behind.nodes; size = a.behind.size }) d from (n + 1) (e.Get n x f) ss rest more a.known (before_behind h.open_few a.behind) in
       record { known = b.known; behind = behind_both a.behind b.behind }
   steps_kept fs t d from n x (call m args ss) rest more k h =
-      let a = call_kept fs t d from n x m args (roles_steps d ss rest) (spell_steps ss more) k h (λ u b. args_kept fs u (d + 1) (n + 1) args (plain ∷ roles_steps d ss rest) (CloseParen ∷ spell_steps ss more) b) in
+      let a = call_kept fs t d from n x m args (roles_steps d ss rest) (spell_steps ss more) k h (λ u b. args_kept fs u (d + 1) (n + 1) args (other_token ∷ roles_steps d ss rest) (CloseParen ∷ spell_steps ss more) b) in
       let b = steps_kept fs (record t { marks = a.behind.marks; nodes = a.behind.nodes; size = a.behind.size }) d from (value_args fs (n + 1) args).1 (e.Call n x m (value_args fs (n + 1) args).0) ss rest more a.known (before_behind h.open_few a.behind) in
       record { known = b.known; behind = behind_both a.behind b.behind }
 

@@ -2,8 +2,8 @@
 use Rattle.std.proofs.Common.{◌≡◌, ℕ, ◌+◌, Bool, true, false, List, [], ◌∷◌, ◌++◌, length, map, Option, Some, None, refl, sym, ◌∙◌, ap, subst, arith, append_assoc, length-append, ◌⊎◌, inl, inr}
 use Rattle.cfj_model.specs.declared.expr.Expr.{Expr}
 use Rattle.cfj_model.specs.declared.expr.Expr.TheVariants as e
-use Rattle.cfj_model.specs.Tokens.{Token, Id, NewWord, ThisWord, OpenParen, CloseParen, Comma, Dot, At, Semicolon}
-use Rattle.cfj_model.specs.Roles.{Role, plain, opens, var_name, used_name, is_settled, are_settled}
+use Rattle.cfj_words.specs.Tokens.{Token, Id, NewWord, ThisWord, OpenParen, CloseParen, Comma, Dot, At, Semicolon}
+use Rattle.cfj_model.specs.Roles.{Role, other_token, opens, var_name, used_name, is_settled, are_settled}
 use Rattle.cfj_model.specs.ExpressionGrammar.{roles_expr, value_expr}
 use Rattle.expression_reader.specs.declared.frame.Frame.{Frame}
 use Rattle.expression_reader.specs.declared.frame.Frame.TheVariants.{InBracket, InCast, InArgs}
@@ -238,8 +238,8 @@ paren_name_shown fs (Dot ∷ ts) w frames n h = a_bracket _ refl
 paren_name_shown fs (CloseParen ∷ ts) w frames n h = by (closed_shown fs ts w frames n h)
   where
     by : (others : List Role) × (((run fs ts (at frames (ParenClosed w) n)).1 ≡ bracketed (open_frames frames) w ++ others) ⊎ ((run fs ts (at frames (ParenClosed w) n)).1 ≡ cast_to (open_frames frames) w ++ others)) → Shown (opens (open_frames frames + 1) ∷ (var_name w ∷ [])) (run fs ts (at frames (ParenClosed w) n)).1
-    by (others, inl e) = a_bracket (plain ∷ others) e
-    by (others, inr e) = a_cast (plain ∷ others) refl e
+    by (others, inl e) = a_bracket (other_token ∷ others) e
+    by (others, inr e) = a_cast (other_token ∷ others) refl e
 paren_name_shown fs (_ ∷ ts) w frames n h = never h
 
 paren_shown : (fs : List (List ℕ)) (ts : List Token) (frames : List Frame) (n : ℕ) → Accepts fs ts (at frames Paren n) → Shown (opens (open_frames frames + 1) ∷ []) (run fs ts (at frames Paren n)).1
@@ -274,7 +274,7 @@ settled_behind (r ∷ rs) qs h = settled_behind rs qs (and_parts (is_settled r (
 -- wait.
 pub one_way : (fs : List (List ℕ)) (front : List Token) (s : State) (rs qs : List Role) → run fs front start ≡ (Some s, rs) → Begins front qs → are_settled qs ≡ true → qs ≡ rs ++ pending s
 one_way fs front s rs qs h b fixed =
-    let whole : with_roles rs (run fs b.more s) ≡ (Some (done (value_expr fs 0 b.tree).0), roles_expr 0 b.tree (plain ∷ [])) = sym (run_append fs front b.more start ∙ ap (on_from fs b.more) h) ∙ ap (λ w. run fs w start) (sym b.text) ∙ text_runs fs b.tree in
+    let whole : with_roles rs (run fs b.more s) ≡ (Some (done (value_expr fs 0 b.tree).0), roles_expr 0 b.tree (other_token ∷ [])) = sym (run_append fs front b.more start ∙ ap (on_from fs b.more) h) ∙ ap (λ w. run fs w start) (sym b.text) ∙ text_runs fs b.tree in
     let gets : Accepts fs b.more s = ap (λ (p : Run). is_read_whole p.0) whole in
     let same : rs ++ (run fs b.more s).1 ≡ qs ++ b.others = ap (λ (p : Run). p.1) whole ∙ b.in_roles in
     by (shown fs s.mode b.more s.frames s.slot gets) same
@@ -299,7 +299,7 @@ one_way fs front s rs qs h b fixed =
 pub begins_reads : (fs : List (List ℕ)) (front : List Token) (rs : List Role) → Begins front rs → (s : State) × (qs : List Role) × (run fs front start ≡ (Some s, qs))
 begins_reads fs front rs b = by (run fs front start) refl (sym (run_append fs front b.more start) ∙ ap (λ w. run fs w start) (sym b.text) ∙ text_runs fs b.tree)
   where
-    by : (p : Run) → run fs front start ≡ p → on_from fs b.more p ≡ (Some (done (value_expr fs 0 b.tree).0), roles_expr 0 b.tree (plain ∷ [])) → (s : State) × (qs : List Role) × (run fs front start ≡ (Some s, qs))
+    by : (p : Run) → run fs front start ≡ p → on_from fs b.more p ≡ (Some (done (value_expr fs 0 b.tree).0), roles_expr 0 b.tree (other_token ∷ [])) → (s : State) × (qs : List Role) × (run fs front start ≡ (Some s, qs))
     by (None, qs) e whole = absurd (let o : None ≡ Some (done (value_expr fs 0 b.tree).0) = ap (λ (p : Run). p.0) whole in let no : ⊥ = cc o in no)
     by (Some s, qs) e whole = (s, qs, e)
 

@@ -5,9 +5,8 @@ use Rattle.std.proofs.lemmas.Option.{none-some}
 use Rattle.cfj_model.specs.declared.fault.FaultKind.{FaultKind}
 use Rattle.cfj_model.specs.declared.fault.FaultKind.TheVariants.{Limit, NoFeature, Twice}
 use Rattle.cfj_model.specs.declared.fault.LimitKind.TheVariants as limit
-use Rattle.cfj_model.specs.Names.{is_identifier, is_short_identifier, is_name}
-use Rattle.cfj_model.specs.ProductLines.{has}
-use Rattle.cfj_model.specs.Tokens.{Token, Id, NewWord, ThisWord, OpenParen, Dot}
+use Rattle.cfj_words.specs.Names.{is_among, is_identifier, is_short_identifier, is_name}
+use Rattle.cfj_words.specs.Tokens.{Token, Id, NewWord, ThisWord, OpenParen, Dot}
 use Rattle.cfj_model.specs.Roles.{Role, casts, opens, used_name, var_name, mark_name, Tally, counted, tallied, first_of, is_long, past_nodes, past_size, broken_by, AreWithin}
 use Rattle.fj_symbols.specs.Views.{is_read, is_name_token}
 use Rattle.expression_reader.specs.declared.mode.Mode.{Mode}
@@ -68,7 +67,7 @@ var_short : (w : List ℕ) (t : Tally) → broken_by t (var_name w) ≡ None →
 var_short w t h = is_short_of w (none_first (is_long w) (Limit limit.Name) (past_nodes t ∷ (past_size t ∷ [])) h).0
 
 mark_short : (w : List ℕ) (t : Tally) → broken_by t (mark_name w) ≡ None → is_short w ≡ true
-mark_short w t h = is_short_of w (none_first (is_long w) (Limit limit.Name) ((not (has t.features w), NoFeature w) ∷ ((has t.marks w, Twice w) ∷ [])) h).0
+mark_short w t h = is_short_of w (none_first (is_long w) (Limit limit.Name) ((not (is_among t.features w), NoFeature w) ∷ ((is_among t.marks w, Twice w) ∷ [])) h).0
 
 name_short : (m : Mode) (w : List ℕ) (t : Tally) → broken_by t (name_role m w) ≡ None → is_short w ≡ true
 name_short (AfterAt x before colors) w t h = mark_short w t h

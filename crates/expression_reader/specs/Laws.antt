@@ -3,15 +3,15 @@ use Rattle.std.specs.Prelude.{◌≡◌, ℕ, ◌+◌, ◌≤◌, true, false, L
 use Rattle.cfj_model.specs.Expressions.{node_count}
 use Rattle.cfj_model.specs.ExpressionGrammar.{ExprTree, spell_expr, roles_expr, value_expr}
 use Rattle.cfj_model.specs.ProductLines.{most_size, is_body}
-use Rattle.cfj_model.specs.Tokens.{Token, Id, Semicolon}
-use Rattle.cfj_model.specs.Roles.{Role, plain, Tally, tallied, AreWithin, are_settled}
+use Rattle.cfj_words.specs.Tokens.{Token, Id, Semicolon}
+use Rattle.cfj_model.specs.Roles.{Role, other_token, Tally, tallied, AreWithin, are_settled}
 use Rattle.fj_symbols.specs.Views.{are_read}
 use Rattle.expression_reader.specs.Machine.{State, start, done, step, pending, waiting, emitted, run, is_read_whole, is_done, takes_name}
 use Rattle.expression_reader.specs.Reading.{Begins, CanGoOn, IsTextOf, owed}
 
 -- The text of each tree, over any features, is read as the expression that the tree stands for, in the tree's roles.
 abbrev pub ReadsEach : Type 0
-ReadsEach = (features : List (List ℕ)) (x : ExprTree) → run features (spell_expr x (Semicolon ∷ [])) start ≡ (Some (done (value_expr features 0 x).0), roles_expr 0 x (plain ∷ []))
+ReadsEach = (features : List (List ℕ)) (x : ExprTree) → run features (spell_expr x (Semicolon ∷ [])) start ≡ (Some (done (value_expr features 0 x).0), roles_expr 0 x (other_token ∷ []))
 
 -- Only the text of a tree is read to its end.
 abbrev pub ReadsOnly : Type 0

@@ -4,8 +4,8 @@ use Rattle.cfj_model.specs.declared.expr.Arg.{Arg}
 use Rattle.cfj_model.specs.declared.expr.Expr.{Expr}
 use Rattle.cfj_model.specs.declared.expr.Expr.TheVariants as e
 use Rattle.cfj_model.specs.Marks.{color_of}
-use Rattle.cfj_model.specs.Tokens.{Token, Id, NewWord, ThisWord, OpenParen, CloseParen, Comma, Dot, At, Semicolon}
-use Rattle.cfj_model.specs.Roles.{Role, casts, node, opens, plain, used_name, var_name, mark_name}
+use Rattle.cfj_words.specs.Tokens.{Token, Id, NewWord, ThisWord, OpenParen, CloseParen, Comma, Dot, At, Semicolon}
+use Rattle.cfj_model.specs.Roles.{Role, casts, node, opens, other_token, used_name, var_name, mark_name}
 use Rattle.expression_reader.specs.declared.frame.Frame.{Frame}
 use Rattle.expression_reader.specs.declared.frame.Frame.TheVariants.{InBracket, InCast, InArgs}
 use Rattle.expression_reader.specs.declared.frame.Head.{Head}
@@ -190,8 +190,8 @@ depth s = open_in s.mode (open_frames s.frames)
 -- the roles of the tokens that wait, as a bracket's
 abbrev pub pending_in : Mode → ℕ → List Role
 pending_in Paren d = opens (d + 1) ∷ []
-pending_in (ParenName w) d = opens (d + 1) ∷ (var_name w ∷ [])
-pending_in (ParenClosed w) d = opens (d + 1) ∷ (var_name w ∷ (plain ∷ []))
+pending_in (ParenName w) d = opens (d + 1) ∷ var_name w ∷ []
+pending_in (ParenClosed w) d = opens (d + 1) ∷ var_name w ∷ other_token ∷ []
 pending_in _ d = []
 
 abbrev pub pending : State → List Role
@@ -237,7 +237,7 @@ role_in m d OpenParen = opens (d + 1)
 role_in m d ThisWord = node
 role_in m d NewWord = node
 role_in m d Dot = node
-role_in m d _ = plain
+role_in m d _ = other_token
 
 -- the role of a token; where it waits, that of a bracket's
 abbrev pub role : State → Token → Role

@@ -1,8 +1,8 @@
 -- How what the machine has read stands towards the grammar.
 use Rattle.std.specs.Prelude.{◌≡◌, ℕ, ◌+◌, Bool, true, false, if◌then◌else◌, List, [], ◌∷◌, ◌++◌, length}
 use Rattle.cfj_model.specs.ExpressionGrammar.{ExprTree, spell_expr, roles_expr}
-use Rattle.cfj_model.specs.Tokens.{Token, Semicolon}
-use Rattle.cfj_model.specs.Roles.{Role, casts, mark_name, node, opens, plain, used_name, var_name}
+use Rattle.cfj_words.specs.Tokens.{Token, Semicolon}
+use Rattle.cfj_model.specs.Roles.{Role, casts, mark_name, node, opens, other_token, used_name, var_name}
 use Rattle.expression_reader.specs.declared.mode.Mode.{Mode}
 use Rattle.expression_reader.specs.declared.mode.Mode.TheVariants.{AfterDot, AfterMember, AfterNew, AfterClass}
 
@@ -12,7 +12,7 @@ pub record Begins (front : List Token) (rs : List Role) : Type 0 where
   pub more : List Token
   pub others : List Role
   pub text : spell_expr tree (Semicolon ∷ []) ≡ front ++ more
-  pub in_roles : roles_expr 0 tree (plain ∷ []) ≡ rs ++ others
+  pub in_roles : roles_expr 0 tree (other_token ∷ []) ≡ rs ++ others
   pub each : length rs ≡ length front
 
 -- some text of an expression begins with these tokens
@@ -51,5 +51,5 @@ is_role_of_body (mark_name w) = true
 is_role_of_body (opens d) = true
 is_role_of_body (casts d) = true
 is_role_of_body node = true
-is_role_of_body plain = true
+is_role_of_body other_token = true
 is_role_of_body _ = false

@@ -2,7 +2,7 @@
 use Rattle.std.specs.Prelude.{◌≡◌, ℕ, ◌+◌, ◌^◌, ◌<◌, Bool, true, false, ◌&&◌, not, List, [], ◌∷◌, Option, Some, None}
 use Rattle.cfj_model.specs.declared.expr.Expr.{Expr}
 use Rattle.cfj_model.specs.Roles.{is_long}
-use Rattle.cfj_model.specs.Tokens.{Token, Id, Dot}
+use Rattle.cfj_words.specs.Tokens.{Token, Id, Dot}
 use Rattle.expression_reader.specs.declared.frame.Frame.{Frame}
 use Rattle.expression_reader.specs.declared.reader.ExpressionReader.{ExpressionReader}
 use Rattle.expression_reader.specs.declared.mode.Mode.{Mode}

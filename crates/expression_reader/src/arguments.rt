@@ -1,3 +1,5 @@
+//! Arguments and their marks.
+
 ghost use Rattle.std.specs.Prelude.{◌≡◌, ◌+◌, ◌≤◌, ◌<◌, ◌^◌, [], ◌∷◌, ◌++◌, true, IfOk, bit_or, length};
 ghost use Rattle.cfj_model.specs.Marks.{color_of};
 ghost use Rattle.expression_reader.specs.Machine as machine;
@@ -53,7 +55,6 @@ fn marked(colors: Colors, features: &Features<'_>, name: &str) -> Colors
     }
 }
 
-/// Arguments and their marks.
 impl ExpressionReader {
     pub(crate) fn first_arg(
         &mut self,

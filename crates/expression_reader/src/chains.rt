@@ -1,3 +1,5 @@
+//! What stands behind a whole expression: members, and what ends it.
+
 ghost use Rattle.std.specs.Prelude.{◌≡◌, ◌+◌, ◌<◌, ◌^◌, true, IfOk};
 ghost use Rattle.cfj_model.specs.declared.expr.Expr.TheVariants as e;
 ghost use Rattle.expression_reader.specs.Machine as machine;
@@ -50,7 +52,6 @@ fn end_casts(
     Ok((x, None))
 }
 
-/// Behind a whole expression: members, and what ends it.
 impl ExpressionReader {
     pub(crate) fn after(
         &mut self,

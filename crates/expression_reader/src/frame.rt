@@ -1,3 +1,5 @@
+//! What is open round the expression that is read.
+
 use cfj_model::{Arg, Boxed, Colors, Expr, Items, Name};
 
 /// What arguments are given to.

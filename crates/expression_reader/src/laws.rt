@@ -1,3 +1,5 @@
+//! The laws of the reader.
+
 ghost use Rattle.expression_reader.specs.Laws.{
   ReadsEach,
   ReadsOnly,

@@ -1,3 +1,5 @@
+//! What was read last.
+
 use crate::frame::Head;
 use crate::word::Word;
 use cfj_model::{Arg, Colors, Expr, Items, Name};

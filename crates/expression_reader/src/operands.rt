@@ -1,6 +1,8 @@
+//! Where an expression begins: names, `this`, `new`, brackets and casts.
+
 ghost use Rattle.std.specs.Prelude.{◌≡◌, ◌+◌, ◌<◌, ◌^◌, true, IfOk};
-ghost use Rattle.cfj_model.specs.Names.{is_name};
-ghost use Rattle.cfj_model.specs.Tokens.{ThisWord};
+ghost use Rattle.cfj_words.specs.Names.{is_name};
+ghost use Rattle.cfj_words.specs.Tokens.{ThisWord};
 ghost use Rattle.cfj_model.specs.declared.expr.Expr.TheVariants as e;
 ghost use Rattle.expression_reader.specs.Machine as machine;
 ghost use Rattle.expression_reader.specs.Views.{is_short, moved, settles_short};
@@ -16,7 +18,6 @@ use cfj_model::{Expr, Name};
 use fj_symbols::{Symbol, name_of};
 use std::alloc::{AllocError, Global};
 
-/// Where an expression begins: names, `this`, `new`, brackets and casts.
 impl ExpressionReader {
     pub(crate) fn begin(
         &mut self,

@@ -1,3 +1,5 @@
+//! The reader of an expression.
+
 ghost use Rattle.std.specs.Prelude.{◌≡◌, ◌+◌, ◌≤◌, ◌<◌, ◌^◌, true, IfOk, length};
 ghost use Rattle.expression_reader.specs.Machine as machine;
 ghost use Rattle.expression_reader.specs.Views.{reader_seen, moved, settles_short, Goes, IsRoomy};
@@ -56,7 +58,7 @@ impl ExpressionReader {
         let mode = mem::replace(&mut self.mode, Mode::Begin);
         match self.next_mode(alloc, features, mode, symbol)? {
             Some(next) => {
-                self.mode = next;
+                mem::drop(mem::replace(&mut self.mode, next));
                 Ok(true)
             }
             None => Ok(false),
@@ -116,7 +118,10 @@ impl ExpressionReader {
         } = self;
         match mode {
             Mode::Done(x) => Some(x),
-            _ => None,
+            other => {
+                mem::drop(other);
+                None
+            }
         }
     }
 }

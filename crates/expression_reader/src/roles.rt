@@ -1,3 +1,5 @@
+//! The roles of tokens, and which of them wait.
+
 ghost use Rattle.std.specs.Prelude.{◌≡◌, ◌≤◌, ◌^◌};
 ghost use Rattle.expression_reader.specs.Machine as machine;
 ghost use Rattle.expression_reader.specs.Views.{reader_seen};
@@ -28,7 +30,6 @@ pub(crate) fn begins_operand(symbol: Symbol<'_>) -> bool
     }
 }
 
-/// The roles of tokens.
 impl ExpressionReader {
     /// What becomes of the tokens that wait, by the next token.
     pub fn settles(&self, symbol: Symbol<'_>) -> Settling
@@ -72,7 +73,7 @@ impl ExpressionReader {
             Symbol::Id(name) => self.name_role(name),
             Symbol::OpenParen => Role::Opens(self.depth() + 1),
             Symbol::This | Symbol::New | Symbol::Dot => Role::Node,
-            _ => Role::Plain,
+            _ => Role::Other,
         }
     }
 

@@ -1,3 +1,5 @@
+//! Stacks.
+
 ghost use Rattle.std.specs.Prelude.{◌≡◌, [], ◌∷◌, OnOk, MatchOption, reverse};
 
 use std::alloc::{AllocError, Global};

@@ -1,5 +1,7 @@
+//! Identifiers whose roles wait.
+
 ghost use Rattle.std.specs.Prelude.{◌≡◌, true, IfOk, IsTrue};
-ghost use Rattle.cfj_model.specs.Names.{is_identifier};
+ghost use Rattle.cfj_words.specs.Names.{is_identifier};
 ghost use Rattle.expression_reader.specs.Views.{is_short};
 
 use cfj_model::Name;
@@ -17,7 +19,7 @@ pub struct Word {
 
 impl Model for Word {
     ghost use Rattle.std.specs.Prelude.{◌≡◌, List, ℕ, true, string_bytes};
-    ghost use Rattle.cfj_model.specs.Names.{is_identifier};
+    ghost use Rattle.cfj_words.specs.Names.{is_identifier};
 
     ghost Value = { List ℕ };
 

@@ -6,8 +6,9 @@ use Rattle.std.proofs.lemmas.Bool.{and_parts}
 use Rattle.std.proofs.lemmas.List.Folds.{list_any-append}
 use Rattle.std.proofs.lemmas.Nat.Bits.{bit_at_lowest, bit_at-suc, bit_at-zero, bit_at_or, bit_at-pow_same, bit_at-pow_other, bit_at-lt, same_from_bits}
 use Rattle.std.proofs.lemmas.Slice.Eq.{bytes_eq-Decides}
-use Rattle.cfj_model.specs.ProductLines.{has, are_new, are_distinct}
-use Rattle.cfj_model.specs.Selections.{has_bit}
+use Rattle.cfj_model.specs.ProductLines.{are_new, are_distinct}
+use Rattle.cfj_words.specs.Names.{is_among}
+use Rattle.cfj_logic.specs.Selections.{has_bit}
 use Rattle.feature_model.specs.NamedSelections.{named_set}
 
 -- a truth value as a bit
@@ -29,12 +30,12 @@ above : (b r : ℕ) → b < 2 → (b + 2 * r) / 2 ≡ r
 above b r lt = omega arith
 
 -- the bit of a feature says whether it is named
-bit_named : (names fs : List (List ℕ)) (i : ℕ) (d : List ℕ) → i < length fs → bit_at (named_set names fs) i ≡ bit (has names (slice_index_or fs i d))
+bit_named : (names fs : List (List ℕ)) (i : ℕ) (d : List ℕ) → i < length fs → bit_at (named_set names fs) i ≡ bit (is_among names (slice_index_or fs i d))
 bit_named names [] i d lt = absurd (omega arith)
-bit_named names (f ∷ fs) zero d lt = bit_at_lowest (named_set names (f ∷ fs)) ∙ lowest (bit (has names f)) (named_set names fs) (bit_below (has names f))
+bit_named names (f ∷ fs) zero d lt = bit_at_lowest (named_set names (f ∷ fs)) ∙ lowest (bit (is_among names f)) (named_set names fs) (bit_below (is_among names f))
 bit_named names (f ∷ fs) (suc i) d lt =
     bit_at-suc (named_set names (f ∷ fs)) i
-    ∙ ap (λ n. bit_at n i) (above (bit (has names f)) (named_set names fs) (bit_below (has names f)))
+    ∙ ap (λ n. bit_at n i) (above (bit (is_among names f)) (named_set names fs) (bit_below (is_among names f)))
     ∙ bit_named names fs i d (omega arith)
 
 -- and no other bit is set
@@ -43,15 +44,15 @@ bit_past names [] i le = bit_at-zero i
 bit_past names (f ∷ fs) zero le = absurd (omega arith)
 bit_past names (f ∷ fs) (suc i) le =
     bit_at-suc (named_set names (f ∷ fs)) i
-    ∙ ap (λ n. bit_at n i) (above (bit (has names f)) (named_set names fs) (bit_below (has names f)))
+    ∙ ap (λ n. bit_at n i) (above (bit (is_among names f)) (named_set names fs) (bit_below (is_among names f)))
     ∙ bit_past names fs i (omega arith)
 
-pub has_bit_named : (names fs : List (List ℕ)) (i : ℕ) (d : List ℕ) → i < length fs → has_bit (named_set names fs) i ≡ has names (slice_index_or fs i d)
-has_bit_named names fs i d lt = ap (λ n. n == 1) (bit_named names fs i d lt) ∙ bit_is_one (has names (slice_index_or fs i d))
+pub has_bit_named : (names fs : List (List ℕ)) (i : ℕ) (d : List ℕ) → i < length fs → has_bit (named_set names fs) i ≡ is_among names (slice_index_or fs i d)
+has_bit_named names fs i d lt = ap (λ n. n == 1) (bit_named names fs i d lt) ∙ bit_is_one (is_among names (slice_index_or fs i d))
 
 -- one more name
-has_more : (names : List (List ℕ)) (n x : List ℕ) → has (names ++ n ∷ []) x ≡ (has names x || bytes_eq n x)
-has_more names n x = list_any-append (λ m. bytes_eq m x) names (n ∷ []) ∙ ap (λ b. has names x || b) (or_false (bytes_eq n x))
+has_more : (names : List (List ℕ)) (n x : List ℕ) → is_among (names ++ n ∷ []) x ≡ (is_among names x || bytes_eq n x)
+has_more names n x = list_any-append (λ m. bytes_eq m x) names (n ∷ []) ∙ ap (λ b. is_among names x || b) (or_false (bytes_eq n x))
   where
     or_false : (b : Bool) → (b || false) ≡ b
     or_false true = refl
@@ -61,25 +62,25 @@ same_bytes : (n : List ℕ) → bytes_eq n n ≡ true
 same_bytes n = (bytes_eq-Decides n n).1 refl
 
 -- of distinct names, no later one is this one before them
-new_after : (before ns : List (List ℕ)) (y : List ℕ) (j : ℕ) (d : List ℕ) → are_new before ns ≡ true → has before y ≡ true → j < length ns → bytes_eq y (slice_index_or ns j d) ≡ false
+new_after : (before ns : List (List ℕ)) (y : List ℕ) (j : ℕ) (d : List ℕ) → are_new before ns ≡ true → is_among before y ≡ true → j < length ns → bytes_eq y (slice_index_or ns j d) ≡ false
 new_after before [] y j d e h lt = absurd (omega arith)
 new_after before (n ∷ ns) y zero d e h lt = differ (bytes_eq y n) refl
   where
-    fresh : not (has before n) ≡ true
-    fresh = (and_parts (not (has before n)) (are_new (before ++ n ∷ []) ns) e).0
+    fresh : not (is_among before n) ≡ true
+    fresh = (and_parts (not (is_among before n)) (are_new (before ++ n ∷ []) ns) e).0
 
     differ : (b : Bool) → bytes_eq y n ≡ b → bytes_eq y n ≡ false
     differ false same = same
     differ true same =
-        let there : has before n ≡ true = subst (λ (w : List ℕ). has before w ≡ true) ((bytes_eq-Decides y n).0 same) h in
+        let there : is_among before n ≡ true = subst (λ (w : List ℕ). is_among before w ≡ true) ((bytes_eq-Decides y n).0 same) h in
         absurd (let no : ⊥ = cc (ap not there, fresh) in no)
 new_after before (n ∷ ns) y (suc j) d e h lt =
-    let parts = and_parts (not (has before n)) (are_new (before ++ n ∷ []) ns) e in
-    let here : has (before ++ n ∷ []) y ≡ true = has_more before n y ∙ ap (λ b. b || bytes_eq n y) h in
+    let parts = and_parts (not (is_among before n)) (are_new (before ++ n ∷ []) ns) e in
+    let here : is_among (before ++ n ∷ []) y ≡ true = has_more before n y ∙ ap (λ b. b || bytes_eq n y) h in
     new_after (before ++ n ∷ []) ns y j d parts.1 here (omega arith)
 
-has_last : (names : List (List ℕ)) (n : List ℕ) → has (names ++ n ∷ []) n ≡ true
-has_last names n = has_more names n n ∙ ap (λ b. has names n || b) (same_bytes n) ∙ or_true (has names n)
+has_last : (names : List (List ℕ)) (n : List ℕ) → is_among (names ++ n ∷ []) n ≡ true
+has_last names n = has_more names n n ∙ ap (λ b. is_among names n || b) (same_bytes n) ∙ or_true (is_among names n)
   where
     or_true : (b : Bool) → (b || true) ≡ true
     or_true true = refl
@@ -89,10 +90,10 @@ differ_after : (before ns : List (List ℕ)) (i j : ℕ) (d : List ℕ) → are_
 differ_after before [] i j d e lt within = absurd (omega arith)
 differ_after before (n ∷ ns) i zero d e lt within = absurd (omega arith)
 differ_after before (n ∷ ns) zero (suc j) d e lt within =
-    let parts = and_parts (not (has before n)) (are_new (before ++ n ∷ []) ns) e in
+    let parts = and_parts (not (is_among before n)) (are_new (before ++ n ∷ []) ns) e in
     new_after (before ++ n ∷ []) ns n j d parts.1 (has_last before n) (omega arith)
 differ_after before (n ∷ ns) (suc i) (suc j) d e lt within =
-    let parts = and_parts (not (has before n)) (are_new (before ++ n ∷ []) ns) e in
+    let parts = and_parts (not (is_among before n)) (are_new (before ++ n ∷ []) ns) e in
     differ_after (before ++ n ∷ []) ns i j d parts.1 (omega arith) (omega arith)
 
 other_way : (x y : List ℕ) → bytes_eq x y ≡ false → bytes_eq y x ≡ false
@@ -136,7 +137,7 @@ named_set_more names fs f n distinct lt here = same_from_bits (bit_or (named_set
     inside i apart (inl li) =
         let other : bytes_eq n (slice_index_or fs i n) ≡ false = subst (λ (w : List ℕ). bytes_eq w (slice_index_or fs i n) ≡ false) here (differ fs f i n distinct (λ e. apart (sym e)) lt li) in
         bit_named names fs i n li
-        ∙ ap bit (sym (has_more names n (slice_index_or fs i n) ∙ or_none (has names (slice_index_or fs i n)) (bytes_eq n (slice_index_or fs i n)) other))
+        ∙ ap bit (sym (has_more names n (slice_index_or fs i n) ∙ or_none (is_among names (slice_index_or fs i n)) (bytes_eq n (slice_index_or fs i n)) other))
         ∙ sym (bit_named (names ++ n ∷ []) fs i n li)
     inside i apart (inr past) = bit_past names fs i past ∙ sym (bit_past (names ++ n ∷ []) fs i past)
 
@@ -146,5 +147,5 @@ named_set_more names fs f n distinct lt here = same_from_bits (bit_or (named_set
     each : (i : ℕ) → (i ≡ f) ⊎ (i ≢ f) → max (bit_at (named_set names fs) i) (bit_at (2 ^ f) i) ≡ bit_at (named_set (names ++ n ∷ []) fs) i
     each i (inl e) =
         with_one (bit_at (named_set names fs) i) (bit_at (2 ^ f) i) (bit_at-lt (named_set names fs) i) (ap (λ k. bit_at (2 ^ f) k) e ∙ bit_at-pow_same f)
-        ∙ sym (ap (λ k. bit_at (named_set (names ++ n ∷ []) fs) k) e ∙ bit_named (names ++ n ∷ []) fs f n lt ∙ ap (λ w. bit (has (names ++ n ∷ []) w)) here ∙ ap bit (has_last names n))
+        ∙ sym (ap (λ k. bit_at (named_set (names ++ n ∷ []) fs) k) e ∙ bit_named (names ++ n ∷ []) fs f n lt ∙ ap (λ w. bit (is_among (names ++ n ∷ []) w)) here ∙ ap bit (has_last names n))
     each i (inr apart) = with_none (bit_at (named_set names fs) i) (bit_at (2 ^ f) i) (bit_at-pow_other f i apart) ∙ inside i apart (lt_or_ge i (length fs))

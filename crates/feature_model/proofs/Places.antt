@@ -8,7 +8,7 @@ use Rattle.std.proofs.lemmas.List.Quantifiers.{position-Some}
 use Rattle.std.proofs.lemmas.List.Sums.{fails_before_first}
 use Rattle.std.proofs.lemmas.Option.{slice_get_read}
 use Rattle.std.proofs.lemmas.Slice.Eq.{bytes_eq-Decides}
-use Rattle.cfj_model.specs.ProductLines.{has}
+use Rattle.cfj_words.specs.Names.{is_among}
 
 pub name_at : (features : List (List ℕ)) (name : List ℕ) (place : ℕ) → position (λ f. bytes_eq f name) features ≡ Some place → slice_get features place ≡ Some name
 name_at features name place e =
@@ -18,13 +18,13 @@ name_at features name place e =
 pub place_within : (features : List (List ℕ)) (name : List ℕ) (place : ℕ) → position (λ f. bytes_eq f name) features ≡ Some place → place < length features
 place_within features name place e = (position-Some (λ f. bytes_eq f name) features place name e).0
 
-pub name_nowhere : (features : List (List ℕ)) (name : List ℕ) → position (λ f. bytes_eq f name) features ≡ None → has features name ≡ false
+pub name_nowhere : (features : List (List ℕ)) (name : List ℕ) → position (λ f. bytes_eq f name) features ≡ None → is_among features name ≡ false
 name_nowhere features name e = go (nat_lt place (length features)) refl
   where
     place : ℕ
     place = position_or_len (λ f. bytes_eq f name) features
 
-    go : (b : Bool) → nat_lt place (length features) ≡ b → has features name ≡ false
+    go : (b : Bool) → nat_lt place (length features) ≡ b → is_among features name ≡ false
     go true within =
         let found : Some place ≡ None = ap (λ b. cond b (Some place) None) (sym within) ∙ e in
         absurd (let no : ⊥ = cc found in no)

@@ -1,6 +1,9 @@
+//! The selection that names spell.
+
 ghost use Rattle.std.specs.Prelude.{◌≡◌, ◌≤◌, true, false, Some, length, slice_get, IfOk, IfErr, IfSome, IfNone, position};
 ghost use Rattle.std.specs.Str.{bytes_eq};
-ghost use Rattle.cfj_model.specs.ProductLines.{has, are_distinct};
+ghost use Rattle.cfj_model.specs.ProductLines.{are_distinct};
+ghost use Rattle.cfj_words.specs.Names.{is_among};
 ghost use Rattle.feature_model.specs.NamedSelections.{IsSpelled, IsFirstBad};
 
 use cfj_model::{FeatureModel, Name, Selection};
@@ -44,7 +47,7 @@ pub fn read_selection(model: &FeatureModel, names: &[Name]) -> Result<Selection,
 fn number_of(features: &[Name], name: &Name) -> Option<u8>
     requires { length features.now ≤ 128 }
     ensures found { IfSome result (λ number. slice_get features.now number ≡ Some name.now) }
-    ensures none { IfNone result (has features.now name.now ≡ false) }
+    ensures none { IfNone result (is_among features.now name.now ≡ false) }
 {
     match place_of(features, name) {
         Some(place) => Some(place as u8),

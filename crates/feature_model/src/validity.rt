@@ -1,8 +1,10 @@
+//! Whether each constraint is true under a selection.
+
 ghost use Rattle.std.specs.Prelude.{◌≡◌, true, length, IfErr, OnOk};
 ghost use Rattle.std.specs.List.{list_all};
-ghost use Rattle.cfj_model.specs.Formulas.{is_over, truth};
+ghost use Rattle.cfj_logic.specs.Formulas.{is_over, truth};
 ghost use Rattle.cfj_model.specs.ProductLines.{is_constraint};
-ghost use Rattle.cfj_model.specs.Validity.{IsValid, IsFirstFalse};
+ghost use Rattle.cfj_logic.specs.Validity.{IsValid, IsFirstFalse};
 
 use cfj_model::{FeatureModel, Formula, Selection};
 

@@ -7,14 +7,15 @@ use Rattle.std.proofs.lemmas.List.{append_assoc, drop_more}
 use Rattle.std.proofs.lemmas.Option.{get_or_from_slice_get, slice_get_within}
 use Rattle.std.proofs.lemmas.List.Sums.{sum_by-cons}
 use Rattle.std.proofs.lemmas.List.Folds.{list_any-append}
-use Rattle.cfj_model.specs.ProductLines.{has, are_new, are_distinct, rise_from}
+use Rattle.cfj_model.specs.ProductLines.{are_new, are_distinct, rise_from}
+use Rattle.cfj_words.specs.Names.{is_among}
 
 pub at_most : (n m most : ℕ) → n ≤ m → nat_le m most ≡ true → nat_le n most ≡ true
 at_most n m most le e = let within = leb-true m most e in le-leb n most (omega arith)
 
 -- fewer names before have no name that those lack
 abbrev IsPart : List (List ℕ) → List (List ℕ) → Type 0
-IsPart fewer names = (n : List ℕ) → has fewer n ≡ true → has names n ≡ true
+IsPart fewer names = (n : List ℕ) → is_among fewer n ≡ true → is_among names n ≡ true
 
 not_before : (a b : Bool) → (a ≡ true → b ≡ true) → not b ≡ true → not a ≡ true
 not_before false b h e = refl
@@ -34,10 +35,10 @@ either_left false c e = absurd (let no : ⊥ = cc e in no)
 part_behind : (fewer names : List (List ℕ)) (x : List ℕ) → IsPart fewer names → IsPart (fewer ++ x ∷ []) (names ++ x ∷ [])
 part_behind fewer names x h n e =
     list_any-append (λ m. bytes_eq m n) names (x ∷ [])
-    ∙ either_more (has fewer n) (has names n) (has (x ∷ []) n) (h n) (sym (list_any-append (λ m. bytes_eq m n) fewer (x ∷ [])) ∙ e)
+    ∙ either_more (is_among fewer n) (is_among names n) (is_among (x ∷ []) n) (h n) (sym (list_any-append (λ m. bytes_eq m n) fewer (x ∷ [])) ∙ e)
 
 part_past : (fewer names : List (List ℕ)) (x : List ℕ) → IsPart fewer names → IsPart fewer (names ++ x ∷ [])
-part_past fewer names x h n e = list_any-append (λ m. bytes_eq m n) names (x ∷ []) ∙ either_left (has names n) (has (x ∷ []) n) (h n e)
+part_past fewer names x h n e = list_any-append (λ m. bytes_eq m n) names (x ∷ []) ∙ either_left (is_among names n) (is_among (x ∷ []) n) (h n e)
 
 drop_there : {A : Type 0} (xs : List A) (i : ℕ) (x : A) → slice_get xs i ≡ Some x → drop i xs ≡ x ∷ drop (i + 1) xs
 drop_there xs i x here = drop_more xs i x (slice_get_within xs i x here) ∙ ap (λ y. y ∷ drop (i + 1) xs) (get_or_from_slice_get xs i x x here)
@@ -99,10 +100,10 @@ module _ {A B : Type 0} (made : A → B) (keeps : A → Bool) where
   new_kept name [] fewer names h e = refl
   new_kept name (x ∷ xs) fewer names h e =
       let n = name (made x) in
-      let parts = and_parts (not (has names n)) (are_new (names ++ n ∷ []) (map (λ y. name (made y)) xs)) e in
+      let parts = and_parts (not (is_among names n)) (are_new (names ++ n ∷ []) (map (λ y. name (made y)) xs)) e in
       elim (keeps x) as (λ b. are_new fewer (map name (kept_by b x xs)) ≡ true) [
-        | true ↦ and_from (not (has fewer n)) (are_new (fewer ++ n ∷ []) (map name (kept xs)))
-            (not_before (has fewer n) (has names n) (h n) parts.0)
+        | true ↦ and_from (not (is_among fewer n)) (are_new (fewer ++ n ∷ []) (map name (kept xs)))
+            (not_before (is_among fewer n) (is_among names n) (h n) parts.0)
             (new_kept name xs (fewer ++ n ∷ []) (names ++ n ∷ []) (part_behind fewer names n h) parts.1)
         | false ↦ new_kept name xs fewer (names ++ n ∷ []) (part_past fewer names n h) parts.1
       ]

@@ -15,7 +15,7 @@ use Rattle.cfj_model.specs.declared.expr.Expr.{Expr}
 use Rattle.cfj_model.specs.declared.expr.Expr.TheVariants as e
 use Rattle.cfj_model.proofs.ExprCases.{Proved, args_of, by_cases}
 use Rattle.cfj_model.specs.Projection.{presence_of, is_present, bare_field, bare_param, bare_sent, present_methods, projected_ctor, projected_expr, projected_method, projected_class}
-use Rattle.cfj_model.specs.Selections.{Chosen, is_subset}
+use Rattle.cfj_logic.specs.Selections.{Chosen, is_subset}
 use Rattle.feature_views.specs.Selected.{selected_nodes, selected_expr, selected_arg, selected_args, selected_method}
 use Rattle.feature_views.proofs.Kept.{kept_of_map}
 use Rattle.feature_views.proofs.SelectedBodies.{selected_var, selected_get, selected_call, selected_new, selected_cast, arg_present, projected_arg, projected_args, projected_var, projected_get, projected_call, projected_new, projected_cast}

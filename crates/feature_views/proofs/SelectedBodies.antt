@@ -7,7 +7,7 @@ use Rattle.cfj_model.specs.declared.expr.Expr.{Expr}
 use Rattle.cfj_model.specs.declared.expr.Expr.TheVariants as e
 use Rattle.cfj_model.proofs.ExprCases.{fold_var, fold_get, fold_call, fold_new, fold_cast, of_arg}
 use Rattle.cfj_model.specs.Projection.{presence_of, is_present, projected_step, projected_arg_step, projected_expr}
-use Rattle.cfj_model.specs.Selections.{Chosen}
+use Rattle.cfj_logic.specs.Selections.{Chosen}
 use Rattle.feature_views.specs.Selected.{selected_step, selected_arg_step, selected_expr, selected_arg, selected_args}
 
 -- Where each item gives one or none, a list gives what is made of those that are kept.

@@ -3,7 +3,7 @@ use Rattle.std.proofs.Common.{◌≡◌, refl, ℕ, ◌≤◌, Bool, true, not, 
 use Rattle.std.specs.List.{filter, list_all}
 use Rattle.std.specs.Str.{bytes_eq}
 use Rattle.std.proofs.lemmas.Bool.{and_parts, and_from}
-use Rattle.cfj_model.specs.Names.{is_short_identifier}
+use Rattle.cfj_words.specs.Names.{is_short_identifier}
 use Rattle.cfj_model.specs.declared.class.Field.{Field}
 use Rattle.cfj_model.specs.declared.class.Param.{Param}
 use Rattle.cfj_model.specs.declared.class.Sent.{Sent}
@@ -15,7 +15,7 @@ use Rattle.cfj_model.specs.declared.feature_model.FeatureModel.{FeatureModel}
 use Rattle.cfj_model.specs.Expressions.{are_known, is_named, nest, node_count, slots}
 use Rattle.cfj_model.specs.ProductLines.{ProductLine, IsProject, IsPlain, object, most_fields, most_in_ctor, most_methods, most_params, most_nodes, most_nest, most_classes, most_size, are_distinct, rise_from, is_field, is_param, is_sent, are_fields, are_params, are_sents, is_ctor, is_body, is_method, are_methods, is_class, method_size, class_size, is_plain_method, is_plain_class}
 use Rattle.cfj_model.specs.Projection.{presence_of, is_present, bare_field, bare_param, bare_sent, present_fields, present_params, present_sents, present_methods, projected_ctor, projected_expr, projected_method, projected_class, projected}
-use Rattle.cfj_model.specs.Selections.{Chosen}
+use Rattle.cfj_logic.specs.Selections.{Chosen}
 use Rattle.feature_views.specs.Selected.{present_classes}
 use Rattle.feature_views.proofs.Kept.{at_most, length_kept, few_kept, sum_kept, small_kept, distinct_kept, rise_kept, all_kept, all_made}
 use Rattle.feature_views.proofs.KeptBodies.{stays_named, becomes_bare, loses_nodes, stays_shallow, keeps_slots}

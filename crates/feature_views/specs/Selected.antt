@@ -9,7 +9,7 @@ use Rattle.cfj_model.specs.declared.expr.Expr.TheOpen.{Expr-F}
 use Rattle.cfj_model.specs.declared.expr.Expr.TheFolds.{fold-Expr}
 use Rattle.cfj_model.specs.declared.expr.Expr.TheVariants as e
 use Rattle.cfj_model.specs.Projection.{is_present, bare_param, projected_class}
-use Rattle.cfj_model.specs.Selections.{Chosen}
+use Rattle.cfj_logic.specs.Selections.{Chosen}
 
 -- the nodes whose own colours are all selected, in order, each changed into what is kept of it
 abbrev pub selected_nodes : {N : Type 0} → (N → ℕ) → (N → N) → Chosen → List N → List N

@@ -1,3 +1,5 @@
+//! The variant of a class.
+
 ghost use Rattle.std.specs.Prelude.{◌≡◌, true, IfOk};
 ghost use Rattle.cfj_model.specs.Projection.{is_present, projected_ctor, projected_class};
 

@@ -1,3 +1,5 @@
+//! The variant of an expression.
+
 ghost use Rattle.std.specs.Prelude.{◌≡◌, IfOk};
 ghost use Rattle.feature_views.specs.Selected as spec;
 
@@ -64,7 +66,7 @@ fn selected_args(
 {
     let mut kept = Vec::with_capacity(alloc, args.len())?;
     'each: for arg in args {
-        if selection.includes(arg.colors) {
+        if arg.colors.is_kept_by(selection) {
             kept.push(Arg {
                 colors: Colors::empty(),
                 expr: selected_expr(alloc, &arg.expr, selection)?,

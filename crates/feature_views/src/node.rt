@@ -1,5 +1,7 @@
+//! Nodes in lists, of which a variant keeps those that are present.
+
 ghost use Rattle.std.specs.Prelude.{◌≡◌, ℕ, IfOk};
-ghost use Rattle.cfj_model.specs.Selections.{Chosen};
+ghost use Rattle.cfj_logic.specs.Selections.{Chosen};
 ghost use Rattle.feature_views.specs.Selected.{selected_nodes};
 
 use crate::expr::selected_expr;
@@ -34,7 +36,7 @@ pub fn selected<N: Node + Drop>(
     let nodes = nodes.slice();
     let mut kept = Vec::with_capacity(alloc, nodes.len())?;
     'nodes: for node in nodes {
-        if selection.includes(node.colors()) {
+        if node.colors().is_kept_by(selection) {
             kept.push(node.kept(alloc, selection)?)?;
         }
     }

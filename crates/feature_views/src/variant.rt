@@ -1,3 +1,5 @@
+//! The variant of a project.
+
 ghost use Rattle.std.specs.Prelude.{◌≡◌, [], IfOk, length};
 ghost use Rattle.cfj_model.specs.ProductLines.{IsPlain, IsProject};
 ghost use Rattle.cfj_model.specs.Projection.{projected};
@@ -51,7 +53,7 @@ fn classes(
     let mut kept = Vec::new(alloc);
     'classes: for place in 0..project.class_count() {
         let class = project.class(place);
-        if selection.includes(class.colors) {
+        if class.colors.is_kept_by(selection) {
             kept.push(class_of(alloc, class, selection)?)?;
         }
     }

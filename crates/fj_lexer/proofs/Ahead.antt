@@ -5,9 +5,9 @@ use Rattle.std.specs.Prelude.{encode_utf8}
 use Rattle.std.specs.Str.{chars, IsUtf8}
 use Rattle.std.proofs.lemmas.List.{drop_more, at_drop_all}
 use Rattle.std.proofs.lemmas.Str.{chars-nil, chars_past_char, IsUtf8-past_char, encode_ascii}
-use Rattle.cfj_model.specs.Characters.{IsSplit}
-use Rattle.cfj_model.specs.Lexemes.{word_rest}
-use Rattle.cfj_model.proofs.AsciiWords.{continues_ascii}
+use Rattle.cfj_words.specs.Characters.{IsSplit}
+use Rattle.cfj_words.specs.Lexemes.{word_rest}
+use Rattle.cfj_words.proofs.AsciiWords.{continues_ascii}
 
 -- this character stands at this place, and the next one a byte further
 pub record IsStep (text : List ℕ) (at c : ℕ) : Type 0 where

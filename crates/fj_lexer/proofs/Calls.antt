@@ -2,7 +2,7 @@
 use Rattle.std.proofs.Common.{◌≡◌, ℕ, ◌<◌, List, [], length, refl, ap, arith}
 use Rattle.std.proofs.lemmas.Str.{length-le-encodes}
 use Rattle.std.specs.Str.{chars}
-use Rattle.cfj_model.specs.Lexemes.{Lexed, AtEnd, NoClose, blanks, Reached, Unclosed, skipped, lexeme_at, next_lexeme}
+use Rattle.cfj_words.specs.Lexemes.{Lexed, AtEnd, NoClose, blanks, Reached, Unclosed, skipped, lexeme_at, next_lexeme}
 use Rattle.fj_lexer.specs.declared.lexeme.Piece.{Piece}
 use Rattle.fj_lexer.specs.Kinds.{characters_of}
 use Rattle.fj_lexer.specs.Pieces.{IsPiece}

@@ -2,8 +2,8 @@
 use Rattle.std.proofs.Common.{◌≡◌, ℕ, ◌==◌, false, true, List, [], ◌∷◌, refl, Option, Some, None}
 use Rattle.std.specs.Prelude.{MatchOption}
 use Rattle.std.specs.Str.{chars, IsUtf8}
-use Rattle.cfj_model.specs.Names.{starts_word}
-use Rattle.cfj_model.specs.Lexemes.{NoToken, is_single_mark, lexeme_at, after_dash, after_less, after_less_dash}
+use Rattle.cfj_words.specs.Names.{starts_word}
+use Rattle.cfj_words.specs.Lexemes.{NoToken, is_single_mark, lexeme_at, after_dash, after_less, after_less_dash}
 use Rattle.fj_lexer.specs.Pieces.{begins, IsBehind, IsMarkBefore}
 use denote.Ref.{Bor}
 

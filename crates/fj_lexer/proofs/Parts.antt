@@ -4,9 +4,9 @@ use Rattle.std.specs.Prelude.{encode_utf8_all}
 use Rattle.std.specs.Str.{chars, IsUtf8}
 use Rattle.std.proofs.lemmas.List.{append_cancel_right}
 use Rattle.std.proofs.lemmas.Bool.{eqb-true}
-use Rattle.cfj_model.specs.Names.{starts_word, continues_word}
-use Rattle.cfj_model.specs.Lexemes.{Lexeme, Word, Mark, Lexed, Found, AtEnd, NoToken, NoClose, word_run, word_rest, is_single_mark, lexeme_at, after_dash, after_less, after_less_dash}
-use Rattle.cfj_model.specs.Characters.{IsSplit}
+use Rattle.cfj_words.specs.Names.{starts_word, continues_word}
+use Rattle.cfj_words.specs.Lexemes.{Lexeme, Word, Mark, Lexed, Found, AtEnd, NoToken, NoClose, word_run, word_rest, is_single_mark, lexeme_at, after_dash, after_less, after_less_dash}
+use Rattle.cfj_words.specs.Characters.{IsSplit}
 use Rattle.fj_lexer.specs.Kinds.{characters_of}
 use Rattle.fj_lexer.specs.Ends.{IsEndOf}
 use Rattle.fj_lexer.specs.Pieces.{IsMarkBefore}

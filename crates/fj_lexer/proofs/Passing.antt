@@ -2,7 +2,7 @@
 use Rattle.std.proofs.Common.{◌≡◌, ℕ, ◌==◌, Bool, true, false, if◌then◌else◌, List, [], ◌∷◌, ◌++◌, refl, sym, subst, ◌∙◌, append_assoc}
 use Rattle.std.specs.Prelude.{encode_utf8_all}
 use Rattle.std.specs.Str.{chars, IsUtf8}
-use Rattle.cfj_model.specs.Lexemes.{Between, blanks, slash, line, block, star, Skipped, Reached, Unclosed, skipped, is_blank, is_line_end}
+use Rattle.cfj_words.specs.Lexemes.{Between, blanks, slash, line, block, star, Skipped, Reached, Unclosed, skipped, is_blank, is_line_end}
 use Rattle.fj_lexer.specs.Ends.{IsEndOf}
 use Rattle.fj_lexer.specs.Skipping.{SkipsTo, SkipsNot}
 use Rattle.fj_lexer.proofs.TextEnds.{seam, bytes}

@@ -5,7 +5,7 @@ use Rattle.std.specs.List.{slice_range}
 use Rattle.std.specs.Str.{chars, IsUtf8}
 use Rattle.std.proofs.lemmas.List.{take-append-drop, take_at, drop_at}
 use Rattle.std.proofs.lemmas.Str.{encodes-chars, encodes-append}
-use Rattle.cfj_model.specs.Tokens.{place_of}
+use Rattle.cfj_words.specs.Tokens.{place_of}
 use Rattle.fj_lexer.specs.Ends.{IsEndOf}
 
 pub seam : (text front rest : List ℕ) → text ≡ front ++ rest → IsEndOf rest text

@@ -1,7 +1,7 @@
 -- The kind of a lexeme, and its characters.
 use Rattle.std.specs.Prelude.{ℕ, if◌then◌else◌, List, encode_utf8_all}
-use Rattle.cfj_model.specs.Names.{is_reserved}
-use Rattle.cfj_model.specs.Lexemes.{Lexeme, Word, Mark}
+use Rattle.cfj_words.specs.Names.{is_reserved}
+use Rattle.cfj_words.specs.Lexemes.{Lexeme, Word, Mark}
 use Rattle.fj_lexer.specs.declared.token.TokenKind.{TokenKind}
 use Rattle.fj_lexer.specs.declared.token.TokenKind.TheVariants as kind
 

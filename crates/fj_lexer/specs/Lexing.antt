@@ -2,8 +2,8 @@
 use Rattle.std.specs.Prelude.{◌≡◌, ℕ, ◌+◌, List, [], length, Option, Some, None, Result, Ok, Err, IfSome, IfOk, encode_utf8_all}
 use Rattle.std.specs.List.{slice_range}
 use Rattle.std.specs.Str.{chars}
-use Rattle.cfj_model.specs.Lexemes.{Lexeme, Lexed, Found, AtEnd, NoToken, NoClose}
-use Rattle.cfj_model.specs.Tokens.{place_of}
+use Rattle.cfj_words.specs.Lexemes.{Lexeme, Lexed, Found, AtEnd, NoToken, NoClose}
+use Rattle.cfj_words.specs.Tokens.{place_of}
 use Rattle.fj_lexer.specs.declared.token.Token.{Token}
 use Rattle.fj_lexer.specs.declared.token.LexFault.{LexFault}
 use Rattle.fj_lexer.specs.declared.token.LexFault.TheVariants.{BadChar, OpenComment}

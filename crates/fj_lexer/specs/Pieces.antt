@@ -1,7 +1,7 @@
 -- What the parts of a token are while it is read.
 use Rattle.std.specs.Prelude.{◌≡◌, ℕ, Bool, false, ◌==◌, nat_lt, List, [], ◌∷◌, ◌++◌, encode_utf8_all}
 use Rattle.std.specs.Str.{chars, IsUtf8}
-use Rattle.cfj_model.specs.Lexemes.{Lexeme, Mark, Found, lexeme_at}
+use Rattle.cfj_words.specs.Lexemes.{Lexeme, Mark, Found, lexeme_at}
 use Rattle.fj_lexer.specs.declared.lexeme.Piece.{Piece}
 use Rattle.fj_lexer.specs.Kinds.{kind_of, characters_of}
 

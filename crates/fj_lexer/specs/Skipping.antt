@@ -1,7 +1,7 @@
 -- What the steps between tokens give, in terms of where reading goes on.
 use Rattle.std.specs.Prelude.{◌≡◌, ℕ, ◌≤◌, Bool, true, false, List, length}
 use Rattle.std.specs.Str.{chars, IsUtf8}
-use Rattle.cfj_model.specs.Lexemes.{Between, blanks, slash, block, star, Reached, Unclosed, skipped}
+use Rattle.cfj_words.specs.Lexemes.{Between, blanks, slash, block, star, Reached, Unclosed, skipped}
 use Rattle.fj_lexer.specs.declared.skip.Comment.{Comment}
 use Rattle.fj_lexer.specs.declared.skip.Comment.TheVariants as comment
 

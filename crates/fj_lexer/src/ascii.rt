@@ -1,8 +1,10 @@
+//! ASCII characters: which of them go on a word, looked up byte by byte.
+
 ghost use Rattle.std.specs.Prelude.{◌≡◌, ◌<◌, ◌||◌, ◌==◌, false, MatchOption};
 ghost use Rattle.std.specs.Bool.{OnTrue};
 ghost use Rattle.std.specs.Char.{is_ascii_alphabetic, is_ascii_alphanumeric};
 ghost use Rattle.std.specs.Str.{chars};
-ghost use Rattle.cfj_model.specs.Characters.{IsSplit};
+ghost use Rattle.cfj_words.specs.Characters.{IsSplit};
 ghost use Rattle.fj_lexer.specs.Pieces.{begins_ascii};
 
 // For each byte: 2 where it is an ASCII character that begins a word, 1 where it is one that only goes on a word, 0 elsewhere.

@@ -1,15 +1,17 @@
+//! One token at the front of a text: a word or a punctuation text.
+
 ghost use Rattle.std.specs.Prelude.{◌≡◌, ◌∷◌, ◌++◌, false, MatchOption, length};
 ghost use Rattle.std.specs.Str.{chars, IsUtf8};
-ghost use Rattle.cfj_model.specs.Names as names;
-ghost use Rattle.cfj_model.specs.Lexemes as spec;
+ghost use Rattle.cfj_words.specs.Names as names;
+ghost use Rattle.cfj_words.specs.Lexemes as spec;
 ghost use Rattle.fj_lexer.specs.Ends.{IsEndOf};
 ghost use Rattle.fj_lexer.specs.Pieces.{begins, IsBehind, IsMarkBefore, IsPiece};
-ghost use Rattle.cfj_model.specs.Characters.{IsSplit};
+ghost use Rattle.cfj_words.specs.Characters.{IsSplit};
 ghost use Rattle.fj_lexer.specs.Kinds.{word_kind};
 
 use crate::ascii::{continues_ascii, starts_ascii};
 use crate::token::TokenKind;
-use cfj_model::{continues_word, is_reserved, split_first, starts_word};
+use cfj_words::{continues_word, is_reserved, split_first, starts_word};
 
 /// A token's kind and text, and the text behind it.
 #[derive(Clone, Copy)]
@@ -43,7 +45,7 @@ fn word_rest(text: &str) -> &str
 
 /// The text behind the characters that go on a word, each of which is decoded.
 #[inline(never)]
-#[tactic(auto, unfolding(cfj_model::specs::Lexemes::word_rest), using(crate::proofs::Texts::no_characters))]
+#[tactic(auto, unfolding(cfj_words::specs::Lexemes::word_rest), using(crate::proofs::Texts::no_characters))]
 fn wide_word_rest(text: &str) -> &str
     ensures { chars result.now ≡ spec.word_rest (chars text.now) }
 {

@@ -1,3 +1,5 @@
+//! The lexer: a text, and how much of it is read.
+
 ghost use Rattle.std.specs.Prelude.{◌≡◌};
 ghost use Rattle.fj_lexer.specs.Ends.{IsEndOf};
 

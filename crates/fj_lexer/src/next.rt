@@ -1,13 +1,15 @@
+//! The next token of a lexer.
+
 ghost use Rattle.std.specs.Prelude.{◌≡◌, ◌+◌, ◌-◌, ◌<◌, ◌≤◌, length};
 ghost use Rattle.std.specs.Str.{chars};
-ghost use Rattle.cfj_model.specs.Lexemes.{next_lexeme};
+ghost use Rattle.cfj_words.specs.Lexemes.{next_lexeme};
 ghost use Rattle.fj_lexer.specs.Lexing.{Gives, IfToken};
 
 use crate::lexeme::first_piece;
 use crate::lexer::Lexer;
 use crate::skip::skip_blanks;
 use crate::token::{LexFault, Token};
-use cfj_model::split_first;
+use cfj_words::split_first;
 
 impl<'a> Lexer<'a> {
     /// The next token, or the fault that stands in its place; `None` at the end.

@@ -1,10 +1,12 @@
+//! Blanks and comments, which stand between tokens.
+
 ghost use Rattle.std.specs.Prelude.{◌≡◌, ◌≤◌, length, MatchOption, MatchResult};
 ghost use Rattle.std.specs.Str.{chars, IsUtf8};
-ghost use Rattle.cfj_model.specs.Lexemes as spec;
+ghost use Rattle.cfj_words.specs.Lexemes as spec;
 ghost use Rattle.fj_lexer.specs.Skipping.{PassesSlash, IsUnclosed, IsPassed, SkipsTo, SkipsNot};
 
 use crate::ascii::split_ascii;
-use cfj_model::split_first;
+use cfj_words::split_first;
 
 /// What a slash begins.
 pub enum Comment<'a> {
@@ -30,7 +32,7 @@ fn is_line_end(ch: char) -> bool
 }
 
 /// The text behind the rest of a `//` comment.
-#[tactic(auto, unfolding(cfj_model::specs::Lexemes::skipped), using(crate::proofs::Texts::no_characters))]
+#[tactic(auto, unfolding(cfj_words::specs::Lexemes::skipped), using(crate::proofs::Texts::no_characters))]
 fn line_rest(text: &str) -> &str
     ensures passed { spec.skipped spec.line (chars text.now) ≡ spec.skipped spec.blanks (chars result.now) }
     ensures shorter { length result.now ≤ length text.now }
@@ -46,7 +48,7 @@ fn line_rest(text: &str) -> &str
 }
 
 /// The text behind the rest of a `/*` comment; `None` where it isn't closed.
-#[tactic(auto, unfolding(cfj_model::specs::Lexemes::skipped), using(crate::proofs::Texts::no_characters))]
+#[tactic(auto, unfolding(cfj_words::specs::Lexemes::skipped), using(crate::proofs::Texts::no_characters))]
 fn block_rest(text: &str) -> Option<&str>
     ensures { MatchOption result (IsUnclosed spec.block text.now) (λ r. IsPassed spec.block text.now r.now) }
 {
@@ -63,7 +65,7 @@ fn block_rest(text: &str) -> Option<&str>
 }
 
 /// What stands behind a slash, `text` being the text behind it.
-#[tactic(auto, unfolding(cfj_model::specs::Lexemes::skipped), using(crate::proofs::Texts::no_characters))]
+#[tactic(auto, unfolding(cfj_words::specs::Lexemes::skipped), using(crate::proofs::Texts::no_characters))]
 fn behind_slash(text: &str) -> Comment<'_>
     ensures { PassesSlash text.now result }
 {
@@ -78,7 +80,7 @@ fn behind_slash(text: &str) -> Comment<'_>
 }
 
 /// The text behind blanks and comments; as an error, the text from a comment on that isn't closed.
-#[tactic(auto, unfolding(cfj_model::specs::Lexemes::skipped), using(crate::proofs::Texts::no_characters))]
+#[tactic(auto, unfolding(cfj_words::specs::Lexemes::skipped), using(crate::proofs::Texts::no_characters))]
 pub fn skip_blanks(text: &str) -> Result<&str, &str>
     ensures { MatchResult result (λ rest. SkipsTo text.now rest.now) (λ from. SkipsNot text.now from.now) }
 {

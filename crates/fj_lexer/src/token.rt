@@ -1,3 +1,5 @@
+//! Tokens, and the faults that stand where there is none.
+
 /// What a token is: an identifier, a word that names nothing, or punctuation.
 #[derive(Clone, Copy, Debug, PartialEq, Eq)]
 pub enum TokenKind {

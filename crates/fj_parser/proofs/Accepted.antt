@@ -6,7 +6,7 @@ use Rattle.std.specs.List.{slice_get}
 use Rattle.std.specs.Prelude.{is_some}
 use Rattle.cfj_model.specs.declared.fault.FaultKind.{FaultKind}
 use Rattle.cfj_model.specs.Roles.{Role, Tally, counted, tallied, broken_by, AreWithin}
-use Rattle.cfj_model.specs.Tokens.{Token}
+use Rattle.cfj_words.specs.Tokens.{Token}
 use Rattle.expression_reader.specs.declared.roles.Settling.{Settling}
 use Rattle.expression_reader.specs.declared.roles.Settling.TheVariants.{Stays, Bracket, Cast}
 use Rattle.expression_reader.specs.Machine as expression

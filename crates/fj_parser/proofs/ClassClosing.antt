@@ -6,8 +6,8 @@ use Rattle.cfj_model.specs.declared.class.Class.{Class}
 use Rattle.cfj_model.specs.declared.expr.Expr.{Expr}
 use Rattle.cfj_model.specs.ExpressionGrammar.{value_expr}
 use Rattle.cfj_model.specs.Marks.{color_of}
-use Rattle.cfj_model.specs.Tokens.{Token, Semicolon, End}
-use Rattle.cfj_model.specs.Roles.{Role, used_name, plain}
+use Rattle.cfj_words.specs.Tokens.{Token, Semicolon, End}
+use Rattle.cfj_model.specs.Roles.{Role, used_name, other_token}
 use Rattle.expression_reader.specs.Machine as expression
 use Rattle.expression_reader.specs.Reading as expression_reading
 use Rattle.expression_reader.proofs.Law as expression_law
@@ -43,7 +43,7 @@ module _ (features : List (List ℕ)) where
   -- a class with no constructor yet is completed by one of its name
   ctor_closes : (s : State) → Reaches AtEnd (reached_by features (ctor_end s.name) (class_mode InMembers s))
   unfolding run_of ctor_end params_end body_end sends_end assigns_end methods_end
-  ctor_closes s = let_through (bytes_eq s.name s.name) (run_of (class_reader features) (params_end owner.Constructor)) (plain ∷ []) (record (in_class s) { mode = InParams owner.Constructor; of = unnamed }) (same_name s.name) refl
+  ctor_closes s = let_through (bytes_eq s.name s.name) (run_of (class_reader features) (params_end owner.Constructor)) (other_token ∷ []) (record (in_class s) { mode = InParams owner.Constructor; of = unnamed }) (same_name s.name) refl
 
   -- an assignment is completed by the same name again
   second_closes : (s : State) → Reaches AtEnd (reached_by features (second_end s.last) (class_mode AfterEquals s))

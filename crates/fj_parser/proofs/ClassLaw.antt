@@ -5,8 +5,8 @@ use Rattle.cfj_model.specs.declared.class.Class.{Class}
 use Rattle.cfj_model.specs.Faults.{single_classes}
 use Rattle.cfj_model.specs.Grammar.{ClassTree, spell_class, value_class}
 use Rattle.cfj_model.specs.Marks.{in_order, spell_marks}
-use Rattle.cfj_model.specs.Roles.{Role, plain}
-use Rattle.cfj_model.specs.Tokens.{Token, Id, ClassWord, End}
+use Rattle.cfj_model.specs.Roles.{Role, other_token}
+use Rattle.cfj_words.specs.Tokens.{Token, Id, ClassWord, End}
 use Rattle.cfj_model.specs.TreeRoles.{roles_class}
 use Rattle.fj_symbols.specs.Views.{are_read}
 use Rattle.fj_parser.specs.Laws.{Closes, GoesByName, Reads}
@@ -34,15 +34,15 @@ use Rattle.fj_parser.proofs.Standing.{Stands, stands_run, waiting_settled, each_
 abbrev pub class_ended : List (List ℕ) → ClassTree → State
 class_ended features k = record (behind_class features k) { mode = AtEnd }
 
-end_run : (features : List (List ℕ)) (k : ClassTree) → run_of (class_reader features) (End ∷ []) (behind_class features k) ≡ (Some (class_ended features k), plain ∷ [])
+end_run : (features : List (List ℕ)) (k : ClassTree) → run_of (class_reader features) (End ∷ []) (behind_class features k) ≡ (Some (class_ended features k), other_token ∷ [])
 unfolding run_of
 end_run features k = refl
 
-class_text_runs : (features : List (List ℕ)) (k : ClassTree) → run_of (class_reader features) (spell_class k (End ∷ [])) (behind features [] []) ≡ (Some (class_ended features k), roles_class k (plain ∷ []))
+class_text_runs : (features : List (List ℕ)) (k : ClassTree) → run_of (class_reader features) (spell_class k (End ∷ [])) (behind features [] []) ≡ (Some (class_ended features k), roles_class k (other_token ∷ []))
 class_text_runs features k =
     class_runs features k (End ∷ [])
     ∙ ap (with_roles (roles_class k [])) (end_run features k)
-    ∙ ap (λ (q : List Role). (Some (class_ended features k), q)) (sym ((class_grammar_is_plain features).gives k [] (plain ∷ [])))
+    ∙ ap (λ (q : List Role). (Some (class_ended features k), q)) (sym ((class_grammar_is_plain features).gives k [] (other_token ∷ [])))
 
 -- the class that a state stands for, once it is whole
 abbrev pub first_class : List Class → Class

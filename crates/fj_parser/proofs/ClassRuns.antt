@@ -5,7 +5,7 @@ use Rattle.std.proofs.lemmas.Option.{none-some, same_Some}
 use Rattle.cfj_model.specs.declared.class.Class.{Class}
 use Rattle.cfj_model.specs.Grammar.{ClassTree, spell_class, value_class}
 use Rattle.cfj_model.specs.Roles.{Role}
-use Rattle.cfj_model.specs.Tokens.{Token, ClassWord, At, End}
+use Rattle.cfj_words.specs.Tokens.{Token, ClassWord, At, End}
 use Rattle.cfj_model.specs.TreeRoles.{roles_class}
 use Rattle.fj_parser.specs.declared.goal.Goal.TheVariants as goal
 use Rattle.fj_parser.specs.declared.mode.Mode.{Mode}

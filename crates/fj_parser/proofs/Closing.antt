@@ -3,8 +3,8 @@ use Rattle.std.proofs.Common.{◌≡◌, ℕ, Bool, true, false, if◌then◌els
 use Rattle.std.specs.Str.{bytes_eq}
 use Rattle.cfj_model.specs.ExpressionGrammar.{value_expr}
 use Rattle.cfj_model.specs.Marks.{color_of}
-use Rattle.cfj_model.specs.Tokens.{Token, Id, ClassWord, ExtendsWord, SuperWord, ThisWord, ReturnWord, OpenBrace, CloseBrace, OpenParen, CloseParen, Semicolon, Dot, Equals, End}
-use Rattle.cfj_model.specs.Roles.{Role, used_name, plain}
+use Rattle.cfj_words.specs.Tokens.{Token, Id, ClassWord, ExtendsWord, SuperWord, ThisWord, ReturnWord, OpenBrace, CloseBrace, OpenParen, CloseParen, Semicolon, Dot, Equals, End}
+use Rattle.cfj_model.specs.Roles.{Role, used_name, other_token}
 use Rattle.formula_reader.specs.Machine as formula
 use Rattle.formula_reader.proofs.Law.{completes}
 use Rattle.formula_reader.proofs.Leads.{run_leads}
@@ -120,7 +120,7 @@ closing AtEnd s = []
 -- a class with no constructor yet is completed by one of its name
 pub ctor_closes : (s : State) → Reaches AtEnd (run (ctor_end s.name) (record s { mode = InMembers })).0
 unfolding run_of ctor_end params_end body_end sends_end assigns_end methods_end
-ctor_closes s = let_through (bytes_eq s.name s.name) (run (params_end owner.Constructor)) (plain ∷ []) (record s { mode = InParams owner.Constructor; of = unnamed }) (same_name s.name) refl
+ctor_closes s = let_through (bytes_eq s.name s.name) (run (params_end owner.Constructor)) (other_token ∷ []) (record s { mode = InParams owner.Constructor; of = unnamed }) (same_name s.name) refl
 
 -- an assignment is completed by the same name again
 second_closes : (s : State) → Reaches AtEnd (run (second_end s.last) (record s { mode = AfterEquals })).0

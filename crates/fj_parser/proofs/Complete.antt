@@ -4,13 +4,13 @@ use Rattle.std.proofs.lemmas.List.{append-nil}
 use Rattle.std.proofs.lemmas.Slice.Eq.{bytes_eq-Decides}
 use Rattle.std.specs.Str.{bytes_eq}
 use Rattle.cfj_model.specs.declared.class.Class.{Class}
-use Rattle.cfj_model.specs.Tokens.{Token, Id, ClassWord, ExtendsWord, SuperWord, ThisWord, ReturnWord, OpenBrace, CloseBrace, OpenParen, CloseParen, Semicolon, Comma, Dot, Equals, At, End}
-use Rattle.cfj_model.specs.declared.formula.Formula.{Formula}
+use Rattle.cfj_words.specs.Tokens.{Token, Id, ClassWord, ExtendsWord, SuperWord, ThisWord, ReturnWord, OpenBrace, CloseBrace, OpenParen, CloseParen, Semicolon, Comma, Dot, Equals, At, End}
+use Rattle.cfj_logic.specs.declared.formula.Formula.{Formula}
 use Rattle.cfj_model.specs.ExpressionGrammar.{spell_expr, roles_expr}
 use Rattle.cfj_model.specs.FormulaGrammar.{IffTree, spell_iff, roles_iff, value_iff}
 use Rattle.cfj_model.specs.Grammar.{Declared, Named, MethodTree, ClassTree, Tree, constraint_word, features_word, spell_name, spell_features, spell_field, spell_param, spell_sent, spell_assign, spell_ctor, spell_method, spell_constraint, spell_class, spell, numbered, value_field, value_param, value_sent, value_ctor, value_method, value_class}
 use Rattle.cfj_model.specs.Marks.{in_order, each_behind, separated, spell_marks, roles_mark, roles_marks, color_of, colored, colors_of}
-use Rattle.cfj_model.specs.Roles.{Role, mark_name, class_name, method_name, assigned_name, used_name, plain}
+use Rattle.cfj_model.specs.Roles.{Role, mark_name, class_name, method_name, assigned_name, used_name, other_token}
 use Rattle.cfj_model.specs.TreeRoles.{roles_feature, roles_features, roles_field, roles_param, roles_method_param, roles_sent, roles_assign, roles_ctor, roles_method, roles_constraint, roles_class, roles}
 use Rattle.formula_reader.specs.Machine as formula
 use Rattle.formula_reader.specs.declared.mode.Mode as formula_mode
@@ -60,7 +60,7 @@ marks_run : (n : Node) (ms : List (List ℕ)) (ts : List Token) (s : State) → 
 unfolding run_of
 marks_run n [] ts s = refl
 marks_run n (m ∷ ms) ts s =
-    ap (then_run (run (Id m ∷ spell_marks ms ts)) (plain ∷ [])) (at_again n (record s { mode = AfterMark n }))
+    ap (then_run (run (Id m ∷ spell_marks ms ts)) (other_token ∷ [])) (at_again n (record s { mode = AfterMark n }))
     ∙ ap (with_roles (roles_mark m)) (marks_run n ms ts (record s { colors = bit_or s.colors (color_of s.features m) }))
 
 -- the marks of a node that has some, behind the sign of the first
@@ -118,7 +118,7 @@ with_an_assign s d = record s { assigns = s.assigns ++ value_sent s.features (le
 pub field_run : (ms : List (List ℕ)) (of name : List ℕ) (ts : List Token) (s : State) → run (spell_field (record { marks = ms; of = of; name = name }) ts) (in_members s) ≡ with_roles (roles_field (record { marks = ms; of = of; name = name })) (run ts (in_members (with_a_field s (record { marks = ms; of = of; name = name }))))
 unfolding run_of
 field_run [] of name ts s = refl
-field_run (m ∷ ms) of name ts s = ap (with_role plain) (first_mark_run node.Member m ms (Id of ∷ (Id name ∷ (Semicolon ∷ ts))) (in_members s))
+field_run (m ∷ ms) of name ts s = ap (with_role other_token) (first_mark_run node.Member m ms (Id of ∷ (Id name ∷ (Semicolon ∷ ts))) (in_members s))
 
 -- {field}
 fields_run : (ds : List Declared) (ts : List Token) (s : State) → run (in_order spell_field ds ts) (in_members s) ≡ with_roles (in_order roles_field ds) (run ts (in_members (record s { fields = s.fields ++ map (value_field s.features) ds })))
@@ -138,8 +138,8 @@ param_run : (o : Owner) (ms : List (List ℕ)) (of name : List ℕ) (ts : List T
 unfolding run_of
 param_run owner.Constructor [] of name ts s = refl
 param_run owner.Method [] of name ts s = refl
-param_run owner.Constructor (m ∷ ms) of name ts s = ap (with_role plain) (first_mark_run (node.Param owner.Constructor) m ms (Id of ∷ (Id name ∷ ts)) (after_param_comma owner.Constructor s))
-param_run owner.Method (m ∷ ms) of name ts s = ap (with_role plain) (first_mark_run (node.Param owner.Method) m ms (Id of ∷ (Id name ∷ ts)) (after_param_comma owner.Method s))
+param_run owner.Constructor (m ∷ ms) of name ts s = ap (with_role other_token) (first_mark_run (node.Param owner.Constructor) m ms (Id of ∷ (Id name ∷ ts)) (after_param_comma owner.Constructor s))
+param_run owner.Method (m ∷ ms) of name ts s = ap (with_role other_token) (first_mark_run (node.Param owner.Method) m ms (Id of ∷ (Id name ∷ ts)) (after_param_comma owner.Method s))
 
 -- the first parameter is read as one behind a comma
 first_param_run : (o : Owner) (ms : List (List ℕ)) (of name : List ℕ) (ts : List Token) (s : State) → run (spell_param (record { marks = ms; of = of; name = name }) ts) (in_params o s) ≡ run (spell_param (record { marks = ms; of = of; name = name }) ts) (after_param_comma o (record s { params = [] }))
@@ -148,16 +148,16 @@ first_param_run o [] of name ts s = refl
 first_param_run o (m ∷ ms) of name ts s = refl
 
 -- the parameters after the first, and the bracket
-pub more_params_run : (o : Owner) (ds : List Declared) (ts : List Token) (s : State) → run (each_behind Comma spell_param ds (CloseParen ∷ ts)) (after_param o s) ≡ with_roles (λ rs. each_behind plain (roles_param_of o) ds (plain ∷ rs)) (run ts (after_params o (record s { params = s.params ++ numbered (value_param s.features) (length s.params) ds })))
+pub more_params_run : (o : Owner) (ds : List Declared) (ts : List Token) (s : State) → run (each_behind Comma spell_param ds (CloseParen ∷ ts)) (after_param o s) ≡ with_roles (λ rs. each_behind other_token (roles_param_of o) ds (other_token ∷ rs)) (run ts (after_params o (record s { params = s.params ++ numbered (value_param s.features) (length s.params) ds })))
 unfolding run_of
-more_params_run o [] ts s = ap (λ ps. with_role plain (run ts (after_params o (record s { params = ps })))) (sym (append-nil s.params))
+more_params_run o [] ts s = ap (λ ps. with_role other_token (run ts (after_params o (record s { params = ps })))) (sym (append-nil s.params))
 more_params_run o (d ∷ ds) ts s =
-    ap (with_role plain) (param_run o d.marks d.of d.name (each_behind Comma spell_param ds (CloseParen ∷ ts)) s)
-    ∙ ap (with_roles (λ rs. plain ∷ roles_param_of o d rs)) (more_params_run o ds ts (with_a_param s d))
-    ∙ ap (λ ps. with_roles (λ rs. each_behind plain (roles_param_of o) (d ∷ ds) (plain ∷ rs)) (run ts (after_params o (record s { params = ps })))) (numbered_on (value_param s.features) s.params d ds)
+    ap (with_role other_token) (param_run o d.marks d.of d.name (each_behind Comma spell_param ds (CloseParen ∷ ts)) s)
+    ∙ ap (with_roles (λ rs. other_token ∷ roles_param_of o d rs)) (more_params_run o ds ts (with_a_param s d))
+    ∙ ap (λ ps. with_roles (λ rs. each_behind other_token (roles_param_of o) (d ∷ ds) (other_token ∷ rs)) (run ts (after_params o (record s { params = ps })))) (numbered_on (value_param s.features) s.params d ds)
 
 -- list(param), and the bracket
-pub params_run : (o : Owner) (ds : List Declared) (ts : List Token) (s : State) → run (separated Comma spell_param ds (CloseParen ∷ ts)) (in_params o s) ≡ with_roles (λ rs. separated plain (roles_param_of o) ds (plain ∷ rs)) (run ts (after_params o (record s { params = numbered (value_param s.features) 0 ds })))
+pub params_run : (o : Owner) (ds : List Declared) (ts : List Token) (s : State) → run (separated Comma spell_param ds (CloseParen ∷ ts)) (in_params o s) ≡ with_roles (λ rs. separated other_token (roles_param_of o) ds (other_token ∷ rs)) (run ts (after_params o (record s { params = numbered (value_param s.features) 0 ds })))
 unfolding run_of
 params_run o [] ts s = refl
 params_run o (d ∷ ds) ts s =
@@ -169,7 +169,7 @@ params_run o (d ∷ ds) ts s =
 sent_run : (ms : List (List ℕ)) (name : List ℕ) (ts : List Token) (s : State) → run (spell_sent (record { marks = ms; name = name }) ts) (after_send_comma s) ≡ with_roles (roles_sent (record { marks = ms; name = name })) (run ts (after_send (with_a_sent s (record { marks = ms; name = name }))))
 unfolding run_of
 sent_run [] name ts s = refl
-sent_run (m ∷ ms) name ts s = ap (with_role plain) (first_mark_run node.Send m ms (Id name ∷ ts) (after_send_comma s))
+sent_run (m ∷ ms) name ts s = ap (with_role other_token) (first_mark_run node.Send m ms (Id name ∷ ts) (after_send_comma s))
 
 -- the first sent name is read as one behind a comma
 first_sent_run : (ms : List (List ℕ)) (name : List ℕ) (ts : List Token) (s : State) → run (spell_sent (record { marks = ms; name = name }) ts) (in_sends s) ≡ run (spell_sent (record { marks = ms; name = name }) ts) (after_send_comma (record s { sends = [] }))
@@ -178,16 +178,16 @@ first_sent_run [] name ts s = refl
 first_sent_run (m ∷ ms) name ts s = refl
 
 -- the sent names after the first, and the bracket
-pub more_sends_run : (ds : List Named) (ts : List Token) (s : State) → run (each_behind Comma spell_sent ds (CloseParen ∷ ts)) (after_send s) ≡ with_roles (λ rs. each_behind plain roles_sent ds (plain ∷ rs)) (run ts (after_sends (record s { sends = s.sends ++ numbered (value_sent s.features) (length s.sends) ds })))
+pub more_sends_run : (ds : List Named) (ts : List Token) (s : State) → run (each_behind Comma spell_sent ds (CloseParen ∷ ts)) (after_send s) ≡ with_roles (λ rs. each_behind other_token roles_sent ds (other_token ∷ rs)) (run ts (after_sends (record s { sends = s.sends ++ numbered (value_sent s.features) (length s.sends) ds })))
 unfolding run_of
-more_sends_run [] ts s = ap (λ ps. with_role plain (run ts (after_sends (record s { sends = ps })))) (sym (append-nil s.sends))
+more_sends_run [] ts s = ap (λ ps. with_role other_token (run ts (after_sends (record s { sends = ps })))) (sym (append-nil s.sends))
 more_sends_run (d ∷ ds) ts s =
-    ap (with_role plain) (sent_run d.marks d.name (each_behind Comma spell_sent ds (CloseParen ∷ ts)) s)
-    ∙ ap (with_roles (λ rs. plain ∷ roles_sent d rs)) (more_sends_run ds ts (with_a_sent s d))
-    ∙ ap (λ ps. with_roles (λ rs. each_behind plain roles_sent (d ∷ ds) (plain ∷ rs)) (run ts (after_sends (record s { sends = ps })))) (numbered_on (value_sent s.features) s.sends d ds)
+    ap (with_role other_token) (sent_run d.marks d.name (each_behind Comma spell_sent ds (CloseParen ∷ ts)) s)
+    ∙ ap (with_roles (λ rs. other_token ∷ roles_sent d rs)) (more_sends_run ds ts (with_a_sent s d))
+    ∙ ap (λ ps. with_roles (λ rs. each_behind other_token roles_sent (d ∷ ds) (other_token ∷ rs)) (run ts (after_sends (record s { sends = ps })))) (numbered_on (value_sent s.features) s.sends d ds)
 
 -- list(sent), and the bracket
-sends_run : (ds : List Named) (ts : List Token) (s : State) → run (separated Comma spell_sent ds (CloseParen ∷ ts)) (in_sends s) ≡ with_roles (λ rs. separated plain roles_sent ds (plain ∷ rs)) (run ts (after_sends (record s { sends = numbered (value_sent s.features) 0 ds })))
+sends_run : (ds : List Named) (ts : List Token) (s : State) → run (separated Comma spell_sent ds (CloseParen ∷ ts)) (in_sends s) ≡ with_roles (λ rs. separated other_token roles_sent ds (other_token ∷ rs)) (run ts (after_sends (record s { sends = numbered (value_sent s.features) 0 ds })))
 unfolding run_of
 sends_run [] ts s = refl
 sends_run (d ∷ ds) ts s =
@@ -196,19 +196,19 @@ sends_run (d ∷ ds) ts s =
     ∙ ap (with_roles (roles_sent d)) (more_sends_run ds ts (record s { sends = value_sent s.features 0 d ∷ [] }))
 
 -- an assignment's words behind the first, with the colours in hand
-assign_words_run : (w : List ℕ) (ts : List Token) (s : State) → run (Dot ∷ (Id w ∷ (Equals ∷ (Id w ∷ (Semicolon ∷ ts))))) (record s { mode = AfterThis; last = unnamed }) ≡ with_roles (λ rs. plain ∷ (assigned_name w ∷ (plain ∷ (used_name w ∷ (plain ∷ rs))))) (run ts (in_assigns (record s { assigns = s.assigns ++ record { slot = length s.assigns; colors = s.colors; name = w } ∷ [] })))
+assign_words_run : (w : List ℕ) (ts : List Token) (s : State) → run (Dot ∷ (Id w ∷ (Equals ∷ (Id w ∷ (Semicolon ∷ ts))))) (record s { mode = AfterThis; last = unnamed }) ≡ with_roles (λ rs. other_token ∷ (assigned_name w ∷ (other_token ∷ (used_name w ∷ (other_token ∷ rs))))) (run ts (in_assigns (record s { assigns = s.assigns ++ record { slot = length s.assigns; colors = s.colors; name = w } ∷ [] })))
 unfolding run_of
 assign_words_run w ts s =
     let n : State = record s { mode = AfterSecondName; assigns = s.assigns ++ record { slot = length s.assigns; colors = s.colors; name = w } ∷ []; colors = 0; last = unnamed } in
-    ap (λ b. with_roles (λ rs. plain ∷ (assigned_name w ∷ (plain ∷ rs))) (then_run (run (Semicolon ∷ ts)) (used_name w ∷ []) (if b then Some n else None))) (same_name w)
+    ap (λ b. with_roles (λ rs. other_token ∷ (assigned_name w ∷ (other_token ∷ rs))) (then_run (run (Semicolon ∷ ts)) (used_name w ∷ []) (if b then Some n else None))) (same_name w)
 
 -- an assignment with these marks
 assign_run : (ms : List (List ℕ)) (w : List ℕ) (ts : List Token) (s : State) → run (spell_assign (record { marks = ms; name = w }) ts) (in_assigns s) ≡ with_roles (roles_assign (record { marks = ms; name = w })) (run ts (in_assigns (with_an_assign s (record { marks = ms; name = w }))))
 unfolding run_of
-assign_run [] w ts s = ap (with_role plain) (assign_words_run w ts (in_assigns s))
+assign_run [] w ts s = ap (with_role other_token) (assign_words_run w ts (in_assigns s))
 assign_run (m ∷ ms) w ts s =
-    ap (with_role plain) (first_mark_run node.Assign m ms (ThisWord ∷ (Dot ∷ (Id w ∷ (Equals ∷ (Id w ∷ (Semicolon ∷ ts)))))) (in_assigns s))
-    ∙ ap (with_roles (λ rs. roles_marks (m ∷ ms) (plain ∷ rs))) (assign_words_run w ts (record s { colors = colors_of s.features (m ∷ ms) }))
+    ap (with_role other_token) (first_mark_run node.Assign m ms (ThisWord ∷ (Dot ∷ (Id w ∷ (Equals ∷ (Id w ∷ (Semicolon ∷ ts)))))) (in_assigns s))
+    ∙ ap (with_roles (λ rs. roles_marks (m ∷ ms) (other_token ∷ rs))) (assign_words_run w ts (record s { colors = colors_of s.features (m ∷ ms) }))
 
 -- {assign}
 pub assigns_run : (ds : List Named) (ts : List Token) (s : State) → run (in_order spell_assign ds ts) (in_assigns s) ≡ with_roles (in_order roles_assign ds) (run ts (in_assigns (record s { assigns = s.assigns ++ numbered (value_sent s.features) (length s.assigns) ds })))
@@ -226,11 +226,11 @@ abbrev pub behind_ctor : ClassTree → State → State
 behind_ctor k s = record s { mode = InMethods; params = []; sends = []; assigns = []; ctor = value_ctor s.features k; colors = 0; of = unnamed; last = unnamed }
 
 -- the constructor from its body on
-pub body_run : (k : ClassTree) (ts : List Token) (s : State) → run (OpenBrace ∷ (SuperWord ∷ (OpenParen ∷ separated Comma spell_sent k.sends (CloseParen ∷ (Semicolon ∷ in_order spell_assign k.assigns (CloseBrace ∷ ts)))))) (before_body k s) ≡ with_roles (λ rs. plain ∷ (plain ∷ (plain ∷ separated plain roles_sent k.sends (plain ∷ (plain ∷ in_order roles_assign k.assigns (plain ∷ rs)))))) (run ts (behind_ctor k s))
+pub body_run : (k : ClassTree) (ts : List Token) (s : State) → run (OpenBrace ∷ (SuperWord ∷ (OpenParen ∷ separated Comma spell_sent k.sends (CloseParen ∷ (Semicolon ∷ in_order spell_assign k.assigns (CloseBrace ∷ ts)))))) (before_body k s) ≡ with_roles (λ rs. other_token ∷ (other_token ∷ (other_token ∷ separated other_token roles_sent k.sends (other_token ∷ (other_token ∷ in_order roles_assign k.assigns (other_token ∷ rs)))))) (run ts (behind_ctor k s))
 unfolding run_of
 body_run k ts s =
-    ap (with_roles (λ rs. plain ∷ (plain ∷ (plain ∷ rs)))) (sends_run k.sends (Semicolon ∷ in_order spell_assign k.assigns (CloseBrace ∷ ts)) (before_body k s))
-    ∙ ap (with_roles (λ rs. plain ∷ (plain ∷ (plain ∷ separated plain roles_sent k.sends (plain ∷ (plain ∷ rs)))))) (assigns_run k.assigns (CloseBrace ∷ ts) (record (before_body k s) { sends = numbered (value_sent s.features) 0 k.sends }))
+    ap (with_roles (λ rs. other_token ∷ (other_token ∷ (other_token ∷ rs)))) (sends_run k.sends (Semicolon ∷ in_order spell_assign k.assigns (CloseBrace ∷ ts)) (before_body k s))
+    ∙ ap (with_roles (λ rs. other_token ∷ (other_token ∷ (other_token ∷ separated other_token roles_sent k.sends (other_token ∷ (other_token ∷ rs)))))) (assigns_run k.assigns (CloseBrace ∷ ts) (record (before_body k s) { sends = numbered (value_sent s.features) 0 k.sends }))
 
 -- a class before its fields, with nothing in hand behind them
 abbrev pub named : List ℕ → State → State
@@ -242,9 +242,9 @@ unfolding run_of
 ctor_run k ts s =
     let body : List Token = OpenBrace ∷ (SuperWord ∷ (OpenParen ∷ separated Comma spell_sent k.sends (CloseParen ∷ (Semicolon ∷ in_order spell_assign k.assigns (CloseBrace ∷ ts))))) in
     let n : State = record s { mode = InParams owner.Constructor; name = k.name; params = []; sends = []; assigns = []; colors = 0; of = unnamed; last = unnamed } in
-    ap (λ b. with_role (used_name k.name) (then_run (run (separated Comma spell_param k.params (CloseParen ∷ body))) (plain ∷ []) (if b then Some n else None))) (same_name k.name)
-    ∙ ap (with_roles (λ rs. used_name k.name ∷ (plain ∷ rs))) (params_run owner.Constructor k.params body n)
-    ∙ ap (with_roles (λ rs. used_name k.name ∷ (plain ∷ separated plain roles_param k.params (plain ∷ rs)))) (body_run k ts (record s { name = k.name }))
+    ap (λ b. with_role (used_name k.name) (then_run (run (separated Comma spell_param k.params (CloseParen ∷ body))) (other_token ∷ []) (if b then Some n else None))) (same_name k.name)
+    ∙ ap (with_roles (λ rs. used_name k.name ∷ (other_token ∷ rs))) (params_run owner.Constructor k.params body n)
+    ∙ ap (with_roles (λ rs. used_name k.name ∷ (other_token ∷ separated other_token roles_param k.params (other_token ∷ rs)))) (body_run k ts (record s { name = k.name }))
 
 -- {field} ctor
 pub members_run : (ds : List Declared) (k : ClassTree) (ts : List Token) (s : State) → run (in_order spell_field ds (spell_ctor k ts)) (named k.name s) ≡ with_roles (λ rs. in_order roles_field ds (roles_ctor k rs)) (run ts (behind_ctor k (record s { name = k.name; fields = s.fields ++ map (value_field s.features) ds })))
@@ -267,7 +267,7 @@ abbrev pub method_rest : MethodTree → List Token → List Token
 method_rest m ts = separated Comma spell_param m.params (CloseParen ∷ (OpenBrace ∷ (ReturnWord ∷ spell_expr m.body (Semicolon ∷ (CloseBrace ∷ ts)))))
 
 abbrev pub roles_method_rest : MethodTree → List Role → List Role
-roles_method_rest m rs = separated plain roles_method_param m.params (plain ∷ (plain ∷ (plain ∷ roles_expr 0 m.body (plain ∷ (plain ∷ rs)))))
+roles_method_rest m rs = separated other_token roles_method_param m.params (other_token ∷ (other_token ∷ (other_token ∷ roles_expr 0 m.body (other_token ∷ (other_token ∷ rs)))))
 
 -- a method behind its head, with its colours in hand
 abbrev pub behind_head : State → ℕ → List ℕ → List ℕ → State
@@ -278,18 +278,18 @@ unfolding run_of
 method_rest_run m colors ts s =
     let n : State = record (in_methods s) { method_colors = colors; result_type = m.result; method = m.name } in
     params_run owner.Method m.params (OpenBrace ∷ (ReturnWord ∷ spell_expr m.body (Semicolon ∷ (CloseBrace ∷ ts)))) n
-    ∙ ap (with_roles (λ rs. separated plain roles_method_param m.params (plain ∷ (plain ∷ (plain ∷ rs))))) (expression_tree_runs m.body (CloseBrace ∷ ts) (record n { params = numbered (value_param s.features) 0 m.params }))
+    ∙ ap (with_roles (λ rs. separated other_token roles_method_param m.params (other_token ∷ (other_token ∷ (other_token ∷ rs))))) (expression_tree_runs m.body (CloseBrace ∷ ts) (record n { params = numbered (value_param s.features) 0 m.params }))
 
 -- a method's words behind the first, with its colours in hand
-method_words_run : (m : MethodTree) (colors : ℕ) (ts : List Token) (s : State) → run (Id m.name ∷ (OpenParen ∷ method_rest m ts)) (record (in_methods s) { mode = AfterResult; colors = colors; of = m.result }) ≡ with_roles (λ rs. method_name m.name ∷ (plain ∷ roles_method_rest m rs)) (run ts (in_methods (record s { methods = s.methods ++ record (value_method s.features m) { colors = colors } ∷ [] })))
+method_words_run : (m : MethodTree) (colors : ℕ) (ts : List Token) (s : State) → run (Id m.name ∷ (OpenParen ∷ method_rest m ts)) (record (in_methods s) { mode = AfterResult; colors = colors; of = m.result }) ≡ with_roles (λ rs. method_name m.name ∷ (other_token ∷ roles_method_rest m rs)) (run ts (in_methods (record s { methods = s.methods ++ record (value_method s.features m) { colors = colors } ∷ [] })))
 unfolding run_of
-method_words_run m colors ts s = ap (with_roles (λ rs. method_name m.name ∷ (plain ∷ rs))) (method_rest_run m colors ts s)
+method_words_run m colors ts s = ap (with_roles (λ rs. method_name m.name ∷ (other_token ∷ rs))) (method_rest_run m colors ts s)
 
 -- a method's marks and its first word
 method_marks_run : (ms : List (List ℕ)) (w : List ℕ) (ts : List Token) (s : State) → run (spell_marks ms (Id w ∷ ts)) (in_methods s) ≡ with_roles (λ rs. roles_marks ms (used_name w ∷ rs)) (run ts (record (in_methods s) { mode = AfterResult; colors = colors_of s.features ms; of = w }))
 unfolding run_of
 method_marks_run [] w ts s = refl
-method_marks_run (m ∷ ms) w ts s = ap (with_role plain) (first_mark_run node.Method m ms (Id w ∷ ts) (in_methods s))
+method_marks_run (m ∷ ms) w ts s = ap (with_role other_token) (first_mark_run node.Method m ms (Id w ∷ ts) (in_methods s))
 
 -- method
 pub method_run : (m : MethodTree) (ts : List Token) (s : State) → run (spell_method m ts) (in_methods s) ≡ with_roles (roles_method m) (run ts (in_methods (with_a_method s m)))
@@ -308,19 +308,19 @@ methods_run (m ∷ ms) ts s =
 -- ---- classes
 
 -- a class behind its first word, with its colours in hand
-class_words_run : (k : ClassTree) (colors : ℕ) (ts : List Token) (fs : List (List ℕ)) (gs : List Formula) (cs : List Class) → run (Id k.name ∷ (ExtendsWord ∷ (Id k.parent ∷ (OpenBrace ∷ in_order spell_field k.fields (spell_ctor k (in_order spell_method k.methods (CloseBrace ∷ ts))))))) (record (behind fs gs cs) { mode = AfterClass; class_colors = colors }) ≡ with_roles (λ rs. class_name k.name ∷ (plain ∷ (used_name k.parent ∷ (plain ∷ in_order roles_field k.fields (roles_ctor k (in_order roles_method k.methods (plain ∷ rs))))))) (run ts (behind fs gs (cs ++ record (value_class fs k) { colors = colors } ∷ [])))
+class_words_run : (k : ClassTree) (colors : ℕ) (ts : List Token) (fs : List (List ℕ)) (gs : List Formula) (cs : List Class) → run (Id k.name ∷ (ExtendsWord ∷ (Id k.parent ∷ (OpenBrace ∷ in_order spell_field k.fields (spell_ctor k (in_order spell_method k.methods (CloseBrace ∷ ts))))))) (record (behind fs gs cs) { mode = AfterClass; class_colors = colors }) ≡ with_roles (λ rs. class_name k.name ∷ (other_token ∷ (used_name k.parent ∷ (other_token ∷ in_order roles_field k.fields (roles_ctor k (in_order roles_method k.methods (other_token ∷ rs))))))) (run ts (behind fs gs (cs ++ record (value_class fs k) { colors = colors } ∷ [])))
 unfolding run_of
 class_words_run k colors ts fs gs cs =
     let n : State = record (behind fs gs cs) { class_colors = colors; parent = k.parent } in
-    ap (with_roles (λ rs. class_name k.name ∷ (plain ∷ (used_name k.parent ∷ (plain ∷ rs)))))
+    ap (with_roles (λ rs. class_name k.name ∷ (other_token ∷ (used_name k.parent ∷ (other_token ∷ rs)))))
     (members_run k.fields k (in_order spell_method k.methods (CloseBrace ∷ ts)) n
     ∙ ap (with_roles (λ rs. in_order roles_field k.fields (roles_ctor k rs))) (methods_run k.methods (CloseBrace ∷ ts) (behind_ctor k (record n { name = k.name; fields = map (value_field fs) k.fields }))))
 
 -- a class's marks and its first word
-class_marks_run : (ms : List (List ℕ)) (ts : List Token) (fs : List (List ℕ)) (gs : List Formula) (cs : List Class) → run (spell_marks ms (ClassWord ∷ ts)) (behind fs gs cs) ≡ with_roles (λ rs. roles_marks ms (plain ∷ rs)) (run ts (record (behind fs gs cs) { mode = AfterClass; class_colors = colors_of fs ms }))
+class_marks_run : (ms : List (List ℕ)) (ts : List Token) (fs : List (List ℕ)) (gs : List Formula) (cs : List Class) → run (spell_marks ms (ClassWord ∷ ts)) (behind fs gs cs) ≡ with_roles (λ rs. roles_marks ms (other_token ∷ rs)) (run ts (record (behind fs gs cs) { mode = AfterClass; class_colors = colors_of fs ms }))
 unfolding run_of
 class_marks_run [] ts fs gs cs = refl
-class_marks_run (m ∷ ms) ts fs gs cs = ap (with_role plain) (first_mark_run node.Class m ms (ClassWord ∷ ts) (behind fs gs cs))
+class_marks_run (m ∷ ms) ts fs gs cs = ap (with_role other_token) (first_mark_run node.Class m ms (ClassWord ∷ ts) (behind fs gs cs))
 
 -- a class behind its marks
 abbrev class_text : ClassTree → List Token → List Token
@@ -330,7 +330,7 @@ class_text k ts = Id k.name ∷ (ExtendsWord ∷ (Id k.parent ∷ (OpenBrace ∷
 pub class_run : (k : ClassTree) (ts : List Token) (fs : List (List ℕ)) (gs : List Formula) (cs : List Class) → run (spell_class k ts) (behind fs gs cs) ≡ with_roles (roles_class k) (run ts (behind fs gs (cs ++ value_class fs k ∷ [])))
 class_run k ts fs gs cs =
     class_marks_run k.marks (class_text k ts) fs gs cs
-    ∙ ap (with_roles (λ rs. roles_marks k.marks (plain ∷ rs))) (class_words_run k (colors_of fs k.marks) ts fs gs cs)
+    ∙ ap (with_roles (λ rs. roles_marks k.marks (other_token ∷ rs))) (class_words_run k (colors_of fs k.marks) ts fs gs cs)
 
 -- {class}
 classes_run_on : (ks : List ClassTree) (ts : List Token) (fs : List (List ℕ)) (gs : List Formula) (cs : List Class) → run (in_order spell_class ks ts) (behind fs gs cs) ≡ with_roles (in_order roles_class ks) (run ts (behind fs gs (cs ++ map (value_class fs) ks)))
@@ -343,12 +343,12 @@ classes_run_on (k ∷ ks) ts fs gs cs =
 -- ---- the feature line
 
 -- the features after the first, and the semicolon
-more_features_run : (fs : List (List ℕ)) (ts : List Token) (s : State) → run (each_behind Comma spell_name fs (Semicolon ∷ ts)) (record s { mode = AfterFeature }) ≡ with_roles (λ rs. each_behind plain roles_feature fs (plain ∷ rs)) (run ts (record s { mode = Start; features = s.features ++ fs }))
+more_features_run : (fs : List (List ℕ)) (ts : List Token) (s : State) → run (each_behind Comma spell_name fs (Semicolon ∷ ts)) (record s { mode = AfterFeature }) ≡ with_roles (λ rs. each_behind other_token roles_feature fs (other_token ∷ rs)) (run ts (record s { mode = Start; features = s.features ++ fs }))
 unfolding run_of
-more_features_run [] ts s = ap (λ fs. with_role plain (run ts (record s { mode = Start; features = fs }))) (sym (append-nil s.features))
+more_features_run [] ts s = ap (λ fs. with_role other_token (run ts (record s { mode = Start; features = fs }))) (sym (append-nil s.features))
 more_features_run (f ∷ fs) ts s =
-    ap (with_roles (λ rs. plain ∷ roles_feature f rs)) (more_features_run fs ts (record s { features = s.features ++ f ∷ [] }))
-    ∙ ap (λ all. with_roles (λ rs. each_behind plain roles_feature (f ∷ fs) (plain ∷ rs)) (run ts (record s { mode = Start; features = all }))) (append_assoc s.features (f ∷ []) fs)
+    ap (with_roles (λ rs. other_token ∷ roles_feature f rs)) (more_features_run fs ts (record s { features = s.features ++ f ∷ [] }))
+    ∙ ap (λ all. with_roles (λ rs. each_behind other_token roles_feature (f ∷ fs) (other_token ∷ rs)) (run ts (record s { mode = Start; features = all }))) (append_assoc s.features (f ∷ []) fs)
 
 -- a line of features
 features_run : (f : List ℕ) (fs : List (List ℕ)) (ts : List Token) → run (spell_features (f ∷ fs) ts) start ≡ with_roles (roles_features (f ∷ fs)) (run ts (before_classes (f ∷ fs) []))
@@ -371,7 +371,7 @@ undone_none f e = go f.mode e
 -- the tokens of a formula and its semicolon are the formula reader's
 pub formula_runs : (s : State) (us : List Token) (f : formula.State) (rs : List Role) (y : Formula) → Leads s.features us f rs y → (ts : List Token) → run (us ++ ts) (record s { mode = InConstraint; formula = f }) ≡ with_roles (λ qs. rs ++ qs) (run ts (record s { mode = Start; constraints = s.constraints ++ y ∷ []; formula = formula.start }))
 unfolding run_of
-formula_runs s _ f _ y (last _ _ e) ts = ap (λ o. then_run (run ts) (plain ∷ []) (in_formula (record s { mode = InConstraint; formula = f }) o)) e
+formula_runs s _ f _ y (last _ _ e) ts = ap (λ o. then_run (run ts) (other_token ∷ []) (in_formula (record s { mode = InConstraint; formula = f }) o)) e
 formula_runs s _ f _ y (more t us _ n rs _ e goes l) ts =
     ap (λ o. then_run (run (us ++ ts)) (formula.role f t ∷ []) (in_formula (record s { mode = InConstraint; formula = f }) o)) e
     ∙ ap (λ o. with_role (formula.role f t) (run (us ++ ts) (after_formula (record s { mode = InConstraint; formula = f }) n o))) (undone_none n goes)
@@ -381,14 +381,14 @@ formula_runs s _ f _ y (more t us _ n rs _ e goes l) ts =
 pub formula_text : (x : IffTree) (ts : List Token) → spell_iff x (Semicolon ∷ ts) ≡ spell_iff x (Semicolon ∷ []) ++ ts
 formula_text x ts = sym (spell_iff_append x (Semicolon ∷ []) ts)
 
-formula_roles : (x : IffTree) (qs : List Role) → roles_iff 0 x (plain ∷ []) ++ qs ≡ roles_iff 0 x (plain ∷ qs)
-formula_roles x qs = roles_iff_append 0 x (plain ∷ []) qs
+formula_roles : (x : IffTree) (qs : List Role) → roles_iff 0 x (other_token ∷ []) ++ qs ≡ roles_iff 0 x (other_token ∷ qs)
+formula_roles x qs = roles_iff_append 0 x (other_token ∷ []) qs
 
 -- a constraint behind its word
-constraint_words_run : (x : IffTree) (ts : List Token) (fs : List (List ℕ)) (gs : List Formula) → run (spell_iff x (Semicolon ∷ ts)) (record (before_classes fs gs) { mode = InConstraint }) ≡ with_roles (λ qs. roles_iff 0 x (plain ∷ qs)) (run ts (before_classes fs (gs ++ value_iff fs x ∷ [])))
+constraint_words_run : (x : IffTree) (ts : List Token) (fs : List (List ℕ)) (gs : List Formula) → run (spell_iff x (Semicolon ∷ ts)) (record (before_classes fs gs) { mode = InConstraint }) ≡ with_roles (λ qs. roles_iff 0 x (other_token ∷ qs)) (run ts (before_classes fs (gs ++ value_iff fs x ∷ [])))
 constraint_words_run x ts fs gs =
     ap (λ w. run w (record (before_classes fs gs) { mode = InConstraint })) (formula_text x ts)
-    ∙ formula_runs (before_classes fs gs) (spell_iff x (Semicolon ∷ [])) formula.start (roles_iff 0 x (plain ∷ [])) (value_iff fs x) (formula_leads fs x) ts
+    ∙ formula_runs (before_classes fs gs) (spell_iff x (Semicolon ∷ [])) formula.start (roles_iff 0 x (other_token ∷ [])) (value_iff fs x) (formula_leads fs x) ts
     ∙ ap (λ qs. ((run ts (before_classes fs (gs ++ value_iff fs x ∷ []))).0, qs)) (formula_roles x (run ts (before_classes fs (gs ++ value_iff fs x ∷ []))).1)
 
 -- "constraint" iff ";"
@@ -475,7 +475,7 @@ unfolding run_of
 classes_run x = tree_run x []
 
 -- behind them the text may end
-end_run : (fs : List (List ℕ)) (xs : List IffTree) (ks : List ClassTree) → run (End ∷ []) (behind_all fs xs ks) ≡ (Some (record (behind_all fs xs ks) { mode = AtEnd }), plain ∷ [])
+end_run : (fs : List (List ℕ)) (xs : List IffTree) (ks : List ClassTree) → run (End ∷ []) (behind_all fs xs ks) ≡ (Some (record (behind_all fs xs ks) { mode = AtEnd }), other_token ∷ [])
 unfolding run_of
 end_run [] [] [] = refl
 end_run (f ∷ fs) xs [] = refl
@@ -487,5 +487,5 @@ abbrev pub ended : Tree → State
 ended x = record (behind_all x.features x.constraints x.classes) { mode = AtEnd }
 
 -- and so is the whole text
-pub text_runs : (x : Tree) → run (spell x (End ∷ [])) start ≡ (Some (ended x), roles x (plain ∷ []))
+pub text_runs : (x : Tree) → run (spell x (End ∷ [])) start ≡ (Some (ended x), roles x (other_token ∷ []))
 text_runs x = tree_run x (End ∷ []) ∙ ap (with_roles (roles x)) (end_run x.features x.constraints x.classes)

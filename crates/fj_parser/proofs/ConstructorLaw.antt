@@ -5,9 +5,9 @@ use Rattle.std.proofs.lemmas.Option.{none-some}
 use Rattle.std.proofs.lemmas.Slice.Eq.{bytes_eq-Decides}
 use Rattle.std.specs.Str.{bytes_eq}
 use Rattle.cfj_model.specs.Grammar.{spell_ctor}
-use Rattle.cfj_model.specs.Names.{is_identifier}
-use Rattle.cfj_model.specs.Roles.{Role, used_name, plain, are_settled}
-use Rattle.cfj_model.specs.Tokens.{Token, Id, OpenParen, CloseBrace, End}
+use Rattle.cfj_words.specs.Names.{is_identifier}
+use Rattle.cfj_model.specs.Roles.{Role, used_name, other_token, are_settled}
+use Rattle.cfj_words.specs.Tokens.{Token, Id, OpenParen, CloseBrace, End}
 use Rattle.cfj_model.specs.TreeRoles.{roles_ctor}
 use Rattle.fj_symbols.specs.Views.{are_read}
 use Rattle.fj_parser.specs.Languages.{CtorTree, in_class, constructors}
@@ -67,15 +67,15 @@ module _ (features : List (List ℕ)) (class : List ℕ) where
   abbrev pub ctor_ended : CtorTree → State
   ctor_ended c = record (behind_one features class c) { mode = AtEnd }
 
-  end_run : (c : CtorTree) → run_of (ctor_reader features class) (End ∷ []) (behind_one features class c) ≡ (Some (ctor_ended c), plain ∷ [])
+  end_run : (c : CtorTree) → run_of (ctor_reader features class) (End ∷ []) (behind_one features class c) ≡ (Some (ctor_ended c), other_token ∷ [])
   unfolding run_of
   end_run c = refl
 
-  ctor_text_runs : (c : CtorTree) → run_of (ctor_reader features class) (spell_ctor (in_class class c) (End ∷ [])) (before_ctor features class) ≡ (Some (ctor_ended c), roles_ctor (in_class class c) (plain ∷ []))
+  ctor_text_runs : (c : CtorTree) → run_of (ctor_reader features class) (spell_ctor (in_class class c) (End ∷ [])) (before_ctor features class) ≡ (Some (ctor_ended c), roles_ctor (in_class class c) (other_token ∷ []))
   ctor_text_runs c =
       ctor_runs features class c (End ∷ [])
       ∙ ap (with_roles (roles_ctor (in_class class c) [])) (end_run c)
-      ∙ ap (λ (q : List Role). (Some (ctor_ended c), q)) (sym (ctor_roles_before (in_class class c) [] (plain ∷ [])))
+      ∙ ap (λ (q : List Role). (Some (ctor_ended c), q)) (sym (ctor_roles_before (in_class class c) [] (other_token ∷ [])))
 
   -- ---- what is read behind a constructor is one
 
@@ -92,7 +92,7 @@ module _ (features : List (List ℕ)) (class : List ℕ) where
   unfolding run_of
   name_read w [] is h = absurd (let no : ⊥ = cc h in no)
   name_read w (OpenParen ∷ us) is h =
-      let p = passed (bytes_eq w class) (run_of (ctor_reader features class) us) (plain ∷ []) (in_ctor features class) h in
+      let p = passed (bytes_eq w class) (run_of (ctor_reader features class) us) (other_token ∷ []) (in_ctor features class) h in
       (us, ap (λ x. Id x ∷ (OpenParen ∷ us)) is, p.1)
   name_read w _ is h = absurd h
 
@@ -254,7 +254,7 @@ module _ (features : List (List ℕ)) (class : List ℕ) where
       by (inside k) = open_settled ts s rs (stage_open class s k) ran
       by (ended_by front m qs split first roles here is) =
           let before : are_settled qs ≡ true = ap are_settled (sym (append-nil qs) ∙ ap (λ q. qs ++ q) (sym (ap (λ x. pending_in x m) here))) ∙ open_settled front m qs (ap is_end here) first in
-          ap are_settled (ap (λ (x : State). rs ++ pending x) is ∙ append-nil rs ∙ roles) ∙ settled_append qs (plain ∷ []) before refl
+          ap are_settled (ap (λ (x : State). rs ++ pending x) is ∙ append-nil rs ∙ roles) ∙ settled_append qs (other_token ∷ []) before refl
 
   -- ---- names
 

@@ -4,8 +4,8 @@ use Rattle.std.proofs.lemmas.Option.{none-some, same_Some}
 use Rattle.std.specs.Str.{bytes_eq}
 use Rattle.cfj_model.specs.Grammar.{ClassTree, spell_ctor, spell_param, spell_sent, spell_assign}
 use Rattle.cfj_model.specs.Marks.{in_order, separated}
-use Rattle.cfj_model.specs.Roles.{Role, used_name, plain}
-use Rattle.cfj_model.specs.Tokens.{Token, Id, SuperWord, OpenBrace, CloseBrace, OpenParen, CloseParen, Semicolon, Comma, At, End}
+use Rattle.cfj_model.specs.Roles.{Role, used_name, other_token}
+use Rattle.cfj_words.specs.Tokens.{Token, Id, SuperWord, OpenBrace, CloseBrace, OpenParen, CloseParen, Semicolon, Comma, At, End}
 use Rattle.cfj_model.specs.TreeRoles.{roles_ctor, roles_param}
 use Rattle.fj_parser.specs.declared.goal.Goal.TheVariants as goal
 use Rattle.fj_parser.specs.declared.mode.Mode.{Mode}
@@ -121,26 +121,26 @@ abbrev pub ctor_words : ClassTree → List Token → List Token
 ctor_words k rest = separated Comma spell_param k.params (CloseParen ∷ (OpenBrace ∷ (SuperWord ∷ (OpenParen ∷ separated Comma spell_sent k.sends (CloseParen ∷ (Semicolon ∷ in_order spell_assign k.assigns (CloseBrace ∷ rest)))))))
 
 -- the name and the bracket
-head_runs : (features : List (List ℕ)) (class : List ℕ) (ts : List Token) → run_of (ctor_reader features class) (Id class ∷ (OpenParen ∷ ts)) (before_ctor features class) ≡ with_roles (used_name class ∷ (plain ∷ [])) (run_of (ctor_reader features class) ts (in_ctor features class))
+head_runs : (features : List (List ℕ)) (class : List ℕ) (ts : List Token) → run_of (ctor_reader features class) (Id class ∷ (OpenParen ∷ ts)) (before_ctor features class) ≡ with_roles (used_name class ∷ (other_token ∷ [])) (run_of (ctor_reader features class) ts (in_ctor features class))
 unfolding run_of
 head_runs features class ts =
     let m : State = record (before_ctor features class) { mode = AfterType; of = class } in
     ap (λ b. then_run (run_of (ctor_reader features class) (OpenParen ∷ ts)) (used_name class ∷ []) (if b then Some m else None)) (same_name class)
-    ∙ ap (λ b. with_roles (used_name class ∷ []) (then_run (run_of (ctor_reader features class) ts) (plain ∷ []) (if b then Some (in_ctor features class) else None))) (same_name class)
+    ∙ ap (λ b. with_roles (used_name class ∷ []) (then_run (run_of (ctor_reader features class) ts) (other_token ∷ []) (if b then Some (in_ctor features class) else None))) (same_name class)
 
 -- the roles of what stands behind them
-words_run : (features : List (List ℕ)) (class : List ℕ) (c : CtorTree) → (rs : List Role) × (run (ctor_words (in_class class c) []) (in_ctor features class) ≡ (Some (behind_one features class c), rs)) × (roles_ctor (in_class class c) [] ≡ used_name class ∷ (plain ∷ rs))
+words_run : (features : List (List ℕ)) (class : List ℕ) (c : CtorTree) → (rs : List Role) × (run (ctor_words (in_class class c) []) (in_ctor features class) ≡ (Some (behind_one features class c), rs)) × (roles_ctor (in_class class c) [] ≡ used_name class ∷ (other_token ∷ rs))
 unfolding run_of
 words_run features class c =
     let k : ClassTree = in_class class c in
     let body : List Token = OpenBrace ∷ (SuperWord ∷ (OpenParen ∷ separated Comma spell_sent k.sends (CloseParen ∷ (Semicolon ∷ in_order spell_assign k.assigns (CloseBrace ∷ []))))) in
-    (_, params_run owner.Constructor k.params body (in_ctor features class) ∙ ap (λ (p : Run State). (p.0, separated plain roles_param k.params (plain ∷ p.1))) (body_run k [] (record (behind features [] []) { name = class })), refl)
+    (_, params_run owner.Constructor k.params body (in_ctor features class) ∙ ap (λ (p : Run State). (p.0, separated other_token roles_param k.params (other_token ∷ p.1))) (body_run k [] (record (behind features [] []) { name = class })), refl)
 
 ctor_alone : (features : List (List ℕ)) (class : List ℕ) (c : CtorTree) → run_of (ctor_reader features class) (spell_ctor (in_class class c) []) (before_ctor features class) ≡ (Some (behind_one features class c), roles_ctor (in_class class c) [])
 ctor_alone features class c =
     let w = words_run features class c in
     head_runs features class (ctor_words (in_class class c) [])
-    ∙ ap (with_roles (used_name class ∷ (plain ∷ []))) (same_run goal.Project goal.Constructor IsBegun IsInFirst widens [] features unnamed class (ctor_words (in_class class c) []) (in_ctor features class) (behind_one features class c) w.0 (omega arith) (omega arith) w.1)
+    ∙ ap (with_roles (used_name class ∷ (other_token ∷ []))) (same_run goal.Project goal.Constructor IsBegun IsInFirst widens [] features unnamed class (ctor_words (in_class class c) []) (in_ctor features class) (behind_one features class c) w.0 (omega arith) (omega arith) w.1)
     ∙ ap (λ (q : List Role). (Some (behind_one features class c), q)) (sym w.2)
 
 -- a constructor, and more

@@ -3,8 +3,8 @@ use Rattle.std.proofs.Common.{◌≡◌, ℕ, Bool, true, false, List, [], ◌�
 use Rattle.std.proofs.lemmas.List.{append-nil}
 use Rattle.std.proofs.lemmas.Option.{none-some, same_Some}
 use Rattle.std.specs.Str.{bytes_eq}
-use Rattle.cfj_model.specs.Roles.{Role, plain}
-use Rattle.cfj_model.specs.Tokens.{Token, Id, CloseBrace, End}
+use Rattle.cfj_model.specs.Roles.{Role, other_token}
+use Rattle.cfj_words.specs.Tokens.{Token, Id, CloseBrace, End}
 use Rattle.fj_parser.specs.Laws.{Settles}
 use Rattle.fj_parser.specs.declared.goal.Goal.TheVariants as goal
 use Rattle.fj_parser.specs.declared.mode.Mode.{Mode}
@@ -49,7 +49,7 @@ record Whole (s : State) (rs : List Role) : Type 0 where
   ran : run ts s ≡ (Some last, rs)
 
 -- the brace that closes a class, in place of the end
-brace_run : (s : State) → s.mode ≡ InMethods → run (CloseBrace ∷ []) s ≡ (Some (with_class s), plain ∷ [])
+brace_run : (s : State) → s.mode ≡ InMethods → run (CloseBrace ∷ []) s ≡ (Some (with_class s), other_token ∷ [])
 unfolding run_of
 brace_run s here =
     ap (λ m. then_run (run []) (emitted_in m s CloseBrace) (step_in m s CloseBrace)) here
@@ -77,7 +77,7 @@ module _ (features : List (List ℕ)) (class : List ℕ) where
               let here : s.mode ≡ InMethods = is_there s.mode there in
               let end = takes_end s x t (ap (λ m. step_for goal.Constructor m s t) (sym here) ∙ goes) in
               let nothing = end_only features class ts x n (run_of (ctor_reader features class) ts x).1 (ap (λ (y : State). y.mode) (sym end.1)) r in
-              let same : plain ∷ [] ≡ rs = sym (end_plain features class s t here end.0) ∙ sym (append-nil (emitted s t)) ∙ ap (λ q. emitted s t ++ q) (sym nothing.2) ∙ all in
+              let same : other_token ∷ [] ≡ rs = sym (end_plain features class s t here end.0) ∙ sym (append-nil (emitted s t)) ∙ ap (λ q. emitted s t ++ q) (sym nothing.2) ∙ all in
               record { ts = CloseBrace ∷ []; last = with_class s; whole = refl; ran = brace_run s here ∙ ap (λ (q : List Role). (Some (with_class s), q)) same }
           by false elsewhere =
               let w = ih x r in

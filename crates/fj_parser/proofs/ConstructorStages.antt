@@ -4,8 +4,8 @@ use Rattle.std.proofs.lemmas.List.{append-nil}
 use Rattle.std.proofs.lemmas.Option.{none-some, same_Some}
 use Rattle.std.proofs.lemmas.Slice.Eq.{bytes_eq-Decides}
 use Rattle.std.specs.Str.{bytes_eq}
-use Rattle.cfj_model.specs.Roles.{Role, used_name, plain}
-use Rattle.cfj_model.specs.Tokens.{Token, Id, SuperWord, ThisWord, OpenBrace, CloseBrace, OpenParen, CloseParen, Semicolon, Comma, Dot, Equals, At, End}
+use Rattle.cfj_model.specs.Roles.{Role, used_name, other_token}
+use Rattle.cfj_words.specs.Tokens.{Token, Id, SuperWord, ThisWord, OpenBrace, CloseBrace, OpenParen, CloseParen, Semicolon, Comma, Dot, Equals, At, End}
 use Rattle.fj_parser.specs.declared.goal.Goal.TheVariants as goal
 use Rattle.fj_parser.specs.declared.mode.Mode.{Mode}
 use Rattle.fj_parser.specs.declared.mode.Mode.TheVariants.{InMembers, AfterAt, AfterMark, AfterType, InParams, AfterParamComma, AfterParamType, AfterParam, AfterParams, InBody, AfterSuper, InSends, AfterSendComma, AfterSend, AfterSends, InAssigns, AfterThis, AfterThisDot, AfterAssigned, AfterEquals, AfterSecondName, InMethods, AtEnd}
@@ -176,10 +176,10 @@ module _ (features : List (List ℕ)) (class : List ℕ) where
   -- A state that is reached is in such a stage, or the end was read behind one.
   pub data Reached (ts : List Token) (s n : State) (rs : List Role) : Type 0 where
     inside : CtorStage class n → Reached ts s n rs
-    ended_by : (front : List Token) (m : State) (qs : List Role) → ts ≡ front ++ End ∷ [] → run_of (ctor_reader features class) front s ≡ (Some m, qs) → rs ≡ qs ++ plain ∷ [] → m.mode ≡ InMethods → n ≡ record m { mode = AtEnd } → Reached ts s n rs
+    ended_by : (front : List Token) (m : State) (qs : List Role) → ts ≡ front ++ End ∷ [] → run_of (ctor_reader features class) front s ≡ (Some m, qs) → rs ≡ qs ++ other_token ∷ [] → m.mode ≡ InMethods → n ≡ record m { mode = AtEnd } → Reached ts s n rs
 
   -- the end of the text is plain
-  pub end_plain : (s : State) (t : Token) → s.mode ≡ InMethods → t ≡ End → emitted s t ≡ plain ∷ []
+  pub end_plain : (s : State) (t : Token) → s.mode ≡ InMethods → t ≡ End → emitted s t ≡ other_token ∷ []
   end_plain s t here end = ap (λ m. emitted_in m s t) here ∙ ap (λ u. emitted_in InMethods s u) end
 
   pub reached_run : (ts : List Token) (s n : State) (rs : List Role) → CtorStage class s → run_of (ctor_reader features class) ts s ≡ (Some n, rs) → Reached ts s n rs
@@ -201,7 +201,7 @@ module _ (features : List (List ℕ)) (class : List ℕ) where
           on : Reached ts x n (run_of (ctor_reader features class) ts x).1 → Reached (t ∷ ts) s n rs
           on (inside j) = inside j
           on (ended_by front m qs split ran roles here end) =
-              ended_by (t ∷ front) m (emitted s t ++ qs) (ap (λ w. t ∷ w) split) (ap (then_run (run_of (ctor_reader features class) front) (emitted s t)) goes ∙ ap (λ (p : Run State). (p.0, emitted s t ++ p.1)) ran) (sym all ∙ ap (λ q. emitted s t ++ q) roles ∙ sym (append_assoc (emitted s t) qs (plain ∷ []))) here end
+              ended_by (t ∷ front) m (emitted s t ++ qs) (ap (λ w. t ∷ w) split) (ap (then_run (run_of (ctor_reader features class) front) (emitted s t)) goes ∙ ap (λ (p : Run State). (p.0, emitted s t ++ p.1)) ran) (sym all ∙ ap (λ q. emitted s t ++ q) roles ∙ sym (append_assoc (emitted s t) qs (other_token ∷ []))) here end
 
           by : StageNext class s t x → Reached (t ∷ ts) s n rs
           by (goes_on j) = on (ih x j r)
@@ -268,7 +268,7 @@ module _ (features : List (List ℕ)) (class : List ℕ) where
 
   name_closes : (s : State) → s.of ≡ s.name → Reaches InMethods (reached_by (OpenParen ∷ params_end) (record s { mode = AfterType }))
   unfolding run_of params_end body_end sends_end
-  name_closes s same = through (bytes_eq s.of s.name) (run_of (ctor_reader features class) params_end) (plain ∷ []) (record s { mode = InParams owner.Constructor; of = unnamed }) ((bytes_eq-Decides s.of s.name).1 same) refl
+  name_closes s same = through (bytes_eq s.of s.name) (run_of (ctor_reader features class) params_end) (other_token ∷ []) (record s { mode = InParams owner.Constructor; of = unnamed }) ((bytes_eq-Decides s.of s.name).1 same) refl
 
   start_closes : (s : State) → Reaches InMethods (reached_by (Id s.name ∷ (OpenParen ∷ params_end)) (record s { mode = InMembers }))
   unfolding run_of

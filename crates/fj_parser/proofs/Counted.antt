@@ -9,12 +9,13 @@ use Rattle.cfj_model.specs.declared.class.Sent.{Sent}
 use Rattle.cfj_model.specs.declared.expr.Expr.{Expr}
 use Rattle.cfj_model.specs.declared.fault.FaultKind.TheVariants.{Twice, Limit}
 use Rattle.cfj_model.specs.declared.fault.LimitKind.TheVariants as limit
-use Rattle.cfj_model.specs.declared.formula.Formula.{Formula}
+use Rattle.cfj_logic.specs.declared.formula.Formula.{Formula}
 use Rattle.cfj_model.specs.Grammar.{constraint_word, features_word}
-use Rattle.cfj_model.specs.ProductLines.{has, most_features, most_in_ctor, most_nodes, most_params}
-use Rattle.cfj_model.specs.Roles.{Role, feature_name, mark_name, class_name, field_name, method_name, param_name, method_param_name, sent_name, assigned_name, var_name, used_name, opens, casts, plain, Tally, nothing, counted, tallied, with_node, broken_by, is_long, past_nest, past_nodes, past_size, AreWithin}
+use Rattle.cfj_model.specs.ProductLines.{most_features, most_in_ctor, most_nodes, most_params}
+use Rattle.cfj_words.specs.Names.{is_among}
+use Rattle.cfj_model.specs.Roles.{Role, feature_name, mark_name, class_name, field_name, method_name, param_name, method_param_name, sent_name, assigned_name, var_name, used_name, opens, casts, other_token, Tally, nothing, counted, tallied, with_node, broken_by, is_long, past_nest, past_nodes, past_size, AreWithin}
 use Rattle.cfj_model.specs.Roles as role
-use Rattle.cfj_model.specs.Tokens.{Token, Id, TrueWord, FalseWord, Bang, Ampersand, Bar, Arrow, DoubleArrow, ClassWord, ExtendsWord, SuperWord, ThisWord, ReturnWord, OpenBrace, CloseBrace, OpenParen, CloseParen, Semicolon, Comma, Dot, Equals, At, End}
+use Rattle.cfj_words.specs.Tokens.{Token, Id, TrueWord, FalseWord, Bang, Ampersand, Bar, Arrow, DoubleArrow, ClassWord, ExtendsWord, SuperWord, ThisWord, ReturnWord, OpenBrace, CloseBrace, OpenParen, CloseParen, Semicolon, Comma, Dot, Equals, At, End}
 use Rattle.formula_reader.specs.Machine as formula
 use Rattle.expression_reader.specs.Machine as expression
 use Rattle.expression_reader.specs.Reading.{owed, is_role_of_body}
@@ -46,7 +47,7 @@ one_node h few = record { empty = h.empty; features = h.features; params = h.par
 -- one more feature
 with_feature : (s : State) (t : Tally) (w : List ℕ) → IsCounted before_class (in_hand s) t → broken_by t (feature_name w) ≡ None → IsCounted before_class (record (in_hand s) { features = length (s.features ++ w ∷ []) }) (counted t (feature_name w))
 with_feature s t w h b =
-    let none : NoneHolds ((is_long w, Limit limit.Name) ∷ ((has t.features w, Twice w) ∷ ((nat_le most_features (length t.features), Limit limit.Features) ∷ []))) = none_holds ((is_long w, Limit limit.Name) ∷ ((has t.features w, Twice w) ∷ ((nat_le most_features (length t.features), Limit limit.Features) ∷ []))) b in
+    let none : NoneHolds ((is_long w, Limit limit.Name) ∷ ((is_among t.features w, Twice w) ∷ ((nat_le most_features (length t.features), Limit limit.Features) ∷ []))) = none_holds ((is_long w, Limit limit.Name) ∷ ((is_among t.features w, Twice w) ∷ ((nat_le most_features (length t.features), Limit limit.Features) ∷ []))) b in
     let few : length t.features < most_features = leb-false _ _ none.1.1.0 in
     let longer = length-append t.features (w ∷ []) in
     record {
@@ -198,7 +199,7 @@ one_of_body t role.node is b h =
 one_of_body t (used_name w) is b h = marked [] h
 one_of_body t (mark_name w) is b h = marked (t.marks ++ w ∷ []) h
 one_of_body t (opens d) is b h = marked [] h
-one_of_body t plain is b h = h
+one_of_body t other_token is b h = h
 one_of_body t _ is b h = absurd (let no : ⊥ = cc is in no)
 
 all_of_body : {place : Place} {n : InHand} (t : Tally) (rs : List Role) → list_all is_role_of_body rs ≡ true → AreWithin t rs → IsCounted place n t → IsCounted place n (tallied t rs)

@@ -3,7 +3,7 @@ use Rattle.std.proofs.Common.{◌≡◌, ℕ, zero, suc, List, [], ◌∷◌, �
 use Rattle.std.proofs.lemmas.Option.{none-some}
 use Rattle.std.specs.List.{slice_get}
 use Rattle.cfj_model.specs.declared.fault.FaultKind.{FaultKind}
-use Rattle.cfj_model.specs.Roles.{Role, opens, plain, var_name, Tally, counted, broken_by}
+use Rattle.cfj_model.specs.Roles.{Role, opens, other_token, var_name, Tally, counted, broken_by}
 use Rattle.expression_reader.specs.declared.roles.Settling.{Settling}
 use Rattle.expression_reader.specs.declared.roles.Settling.TheVariants.{Stays, Bracket, Cast}
 use Rattle.expression_reader.specs.Machine as expression
@@ -52,16 +52,16 @@ both_counted t u v r q p o (Some refusal) first second =
     broken_behind t r (q ∷ []) p (o ∷ []) refusal.at refusal.kind first.0.0 (subst (λ z. IsBrokenAt z (q ∷ []) (o ∷ []) refusal.at refusal.kind) first.1 second)
 
 -- and a bracket that closes, which breaks nothing and counts for nothing
-plain_counted : (t u : Tally) (r q : Role) (p o x : ℕ) (result : Option Refusal) → AreCounted t (r ∷ (q ∷ [])) (p ∷ (o ∷ [])) u result → AreCounted t (r ∷ (q ∷ (plain ∷ []))) (p ∷ (o ∷ (x ∷ []))) u result
+plain_counted : (t u : Tally) (r q : Role) (p o x : ℕ) (result : Option Refusal) → AreCounted t (r ∷ (q ∷ [])) (p ∷ (o ∷ [])) u result → AreCounted t (r ∷ (q ∷ (other_token ∷ []))) (p ∷ (o ∷ (x ∷ []))) u result
 plain_counted t u r q p o x None h = ((h.0.0, (h.0.1.0, (refl, tt))), h.1)
-plain_counted t u r q p o x (Some refusal) h = broken_more t (r ∷ (q ∷ [])) (plain ∷ []) (p ∷ (o ∷ [])) (x ∷ []) refusal.at refusal.kind h
+plain_counted t u r q p o x (Some refusal) h = broken_more t (r ∷ (q ∷ [])) (other_token ∷ []) (p ∷ (o ∷ [])) (x ∷ []) refusal.at refusal.kind h
 
 -- ---- what waits is settled
 
 stayed : {A : Type 0} (c : Settling) → (c ≡ Stays → ⊥) → c ≡ Stays → A
 stayed c other is = absurd (other is)
 
-pub closed_settled : (c : Settling) → (c ≡ Stays → ⊥) → (t u : Tally) (d : ℕ) (w : List ℕ) (p o x : ℕ) (result : Option Refusal) → AreCounted t (settled_role c (opens d) ∷ (settled_role c (var_name w) ∷ [])) (p ∷ (o ∷ [])) u result → AreCounted t (expression.settled c (opens d ∷ (var_name w ∷ (plain ∷ [])))) (p ∷ (o ∷ (x ∷ []))) u result
+pub closed_settled : (c : Settling) → (c ≡ Stays → ⊥) → (t u : Tally) (d : ℕ) (w : List ℕ) (p o x : ℕ) (result : Option Refusal) → AreCounted t (settled_role c (opens d) ∷ (settled_role c (var_name w) ∷ [])) (p ∷ (o ∷ [])) u result → AreCounted t (expression.settled c (opens d ∷ (var_name w ∷ (other_token ∷ [])))) (p ∷ (o ∷ (x ∷ []))) u result
 closed_settled Stays other t u d w p o x result h = stayed Stays other refl
 closed_settled Bracket other t u d w p o x result h = plain_counted t u (settled_role Bracket (opens d)) (settled_role Bracket (var_name w)) p o x result h
 closed_settled Cast other t u d w p o x result h = plain_counted t u (settled_role Cast (opens d)) (settled_role Cast (var_name w)) p o x result h

@@ -3,9 +3,9 @@ use Rattle.std.proofs.Common.{◌≡◌, ℕ, List, Some, sym, subst}
 use Rattle.std.specs.Str.{chars, IsUtf8}
 use Rattle.cfj_model.specs.declared.fault.FaultKind.{FaultKind}
 use Rattle.cfj_model.specs.Faults.{Language, IsTextOf, IsFirstFault, lexical_fault}
-use Rattle.cfj_model.specs.Lexemes.{next_lexeme}
+use Rattle.cfj_words.specs.Lexemes.{next_lexeme}
 use Rattle.cfj_model.specs.Roles.{Tally}
-use Rattle.cfj_model.specs.Tokens.{place_of}
+use Rattle.cfj_words.specs.Tokens.{place_of}
 use Rattle.fj_lexer.specs.declared.token.LexFault.{LexFault}
 use Rattle.fj_parser.specs.Accepting.{IsTold, of_waiting, of_lexer}
 use Rattle.fj_parser.specs.Ending.{IsReadTo, IsStopped, at_token, at_no_lexeme}

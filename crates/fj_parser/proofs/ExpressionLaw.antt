@@ -7,8 +7,8 @@ use Rattle.cfj_model.specs.declared.class.Method.{Method}
 use Rattle.cfj_model.specs.declared.expr.Expr.{Expr}
 use Rattle.cfj_model.specs.declared.expr.Expr.TheVariants as e
 use Rattle.cfj_model.specs.ExpressionGrammar.{ExprTree, spell_expr, roles_expr, value_expr}
-use Rattle.cfj_model.specs.Roles.{Role, plain, are_settled}
-use Rattle.cfj_model.specs.Tokens.{Token, Id, Semicolon, At, End}
+use Rattle.cfj_model.specs.Roles.{Role, other_token, are_settled}
+use Rattle.cfj_words.specs.Tokens.{Token, Id, Semicolon, At, End}
 use Rattle.expression_reader.specs.Machine as expression
 use Rattle.expression_reader.specs.Reading as reading
 use Rattle.expression_reader.specs.declared.frame.Frame.{Frame}
@@ -188,10 +188,10 @@ text_with x t = sym (spell_before x [] (t ∷ []))
 abbrev ended : UnmarkedTree → State
 ended x = with_method first (value_expr [] 0 x.tree).0
 
-complete : (x : UnmarkedTree) → run_of machine (spell_expr x.tree (End ∷ [])) first ≡ (Some (ended x), roles_expr 0 x.tree (plain ∷ []))
+complete : (x : UnmarkedTree) → run_of machine (spell_expr x.tree (End ∷ [])) first ≡ (Some (ended x), roles_expr 0 x.tree (other_token ∷ []))
 complete x =
     ap (λ us. run_of machine us first) (text_with x.tree End)
-    ∙ whole_runs (spell_expr x.tree []) first expression.start (expression.done (value_expr [] 0 x.tree).0) (value_expr [] 0 x.tree).0 (roles_expr 0 x.tree (plain ∷ [])) (expr_inner x.tree [] x.unmarked) (ap (λ us. expression.run [] us expression.start) (sym (text_with x.tree Semicolon)) ∙ expression_complete.text_runs [] x.tree) refl
+    ∙ whole_runs (spell_expr x.tree []) first expression.start (expression.done (value_expr [] 0 x.tree).0) (value_expr [] 0 x.tree).0 (roles_expr 0 x.tree (other_token ∷ [])) (expr_inner x.tree [] x.unmarked) (ap (λ us. expression.run [] us expression.start) (sym (text_with x.tree Semicolon)) ∙ expression_complete.text_runs [] x.tree) refl
 
 -- ---- what is read to the end is a text
 
@@ -259,7 +259,7 @@ inside_closes ts m rs i b u = by (last_split (spell_expr b.tree []) ts b.more Se
         }
 
 -- the roles of a whole text
-whole_roles : (x : ExprTree) (us : List Token) (m : expression.State) (rs : List Role) → us ≡ spell_expr x [] → expression.run [] (us ++ Semicolon ∷ []) expression.start ≡ (Some m, rs) → roles_expr 0 x (plain ∷ []) ≡ rs
+whole_roles : (x : ExprTree) (us : List Token) (m : expression.State) (rs : List Role) → us ≡ spell_expr x [] → expression.run [] (us ++ Semicolon ∷ []) expression.start ≡ (Some m, rs) → roles_expr 0 x (other_token ∷ []) ≡ rs
 whole_roles x us m rs is ran =
     ap (λ (p : expression.Run). p.1) (sym (expression_complete.text_runs [] x) ∙ ap (λ w. expression.run [] w expression.start) (text_with x Semicolon ∙ ap (λ q. q ++ Semicolon ∷ []) (sym is)) ∙ ran)
 

@@ -3,8 +3,8 @@ use Rattle.std.proofs.Common.{◌≡◌, ℕ, Bool, true, false, List, [], ◌�
 use Rattle.std.proofs.lemmas.List.{append-nil}
 use Rattle.cfj_model.specs.declared.expr.Expr.{Expr}
 use Rattle.cfj_model.specs.ExpressionGrammar.{ExprTree, spell_expr, roles_expr, value_expr}
-use Rattle.cfj_model.specs.Roles.{Role, plain}
-use Rattle.cfj_model.specs.Tokens.{Token, Semicolon}
+use Rattle.cfj_model.specs.Roles.{Role, other_token}
+use Rattle.cfj_words.specs.Tokens.{Token, Semicolon}
 use Rattle.expression_reader.specs.Machine as expression
 use Rattle.expression_reader.specs.declared.mode.Mode as expression_mode
 use Rattle.expression_reader.specs.declared.mode.Mode.TheVariants as expression_variant
@@ -74,19 +74,19 @@ expression_runs s e n (t ∷ us) rs x goes h whole ts = go (λ m g f. expression
 pub expression_text : (x : ExprTree) (ts : List Token) → spell_expr x (Semicolon ∷ ts) ≡ spell_expr x (Semicolon ∷ []) ++ ts
 expression_text x ts = sym (spell_before x (Semicolon ∷ []) ts)
 
-pub expression_roles : (x : ExprTree) (qs : List Role) → roles_expr 0 x (plain ∷ []) ++ qs ≡ roles_expr 0 x (plain ∷ qs)
-expression_roles x qs = roles_before 0 x (plain ∷ []) qs
+pub expression_roles : (x : ExprTree) (qs : List Role) → roles_expr 0 x (other_token ∷ []) ++ qs ≡ roles_expr 0 x (other_token ∷ qs)
+expression_roles x qs = roles_before 0 x (other_token ∷ []) qs
 
 -- an expression behind `return`
-pub expression_tree_runs : (x : ExprTree) (ts : List Token) (s : State) → run (spell_expr x (Semicolon ∷ ts)) (in_body s expression.start) ≡ ((run ts (with_method s (value_expr s.features 0 x).0)).0, roles_expr 0 x (plain ∷ (run ts (with_method s (value_expr s.features 0 x).0)).1))
+pub expression_tree_runs : (x : ExprTree) (ts : List Token) (s : State) → run (spell_expr x (Semicolon ∷ ts)) (in_body s expression.start) ≡ ((run ts (with_method s (value_expr s.features 0 x).0)).0, roles_expr 0 x (other_token ∷ (run ts (with_method s (value_expr s.features 0 x).0)).1))
 expression_tree_runs x ts s =
     ap (λ w. run w (in_body s expression.start)) (expression_text x ts)
-    ∙ expression_runs s expression.start (expression.done (value_expr s.features 0 x).0) (spell_expr x (Semicolon ∷ [])) (roles_expr 0 x (plain ∷ [])) (value_expr s.features 0 x).0 refl (text_runs s.features x) refl ts
+    ∙ expression_runs s expression.start (expression.done (value_expr s.features 0 x).0) (spell_expr x (Semicolon ∷ [])) (roles_expr 0 x (other_token ∷ [])) (value_expr s.features 0 x).0 refl (text_runs s.features x) refl ts
     ∙ ap (λ (qs : List Role). ((run ts (with_method s (value_expr s.features 0 x).0)).0, qs)) (expression_roles x (run ts (with_method s (value_expr s.features 0 x).0)).1)
 
 -- Where a tree's text begins with what was read, its rest leads to the end of the expression.
-pub rest_reads : (fs : List (List ℕ)) (front more : List Token) (e : expression.State) (rs : List Role) (x : ExprTree) → expression.run fs front expression.start ≡ (Some e, rs) → spell_expr x (Semicolon ∷ []) ≡ front ++ more → (expression.run fs more e ≡ (Some (expression.done (value_expr fs 0 x).0), (expression.run fs more e).1)) × (rs ++ (expression.run fs more e).1 ≡ roles_expr 0 x (plain ∷ []))
+pub rest_reads : (fs : List (List ℕ)) (front more : List Token) (e : expression.State) (rs : List Role) (x : ExprTree) → expression.run fs front expression.start ≡ (Some e, rs) → spell_expr x (Semicolon ∷ []) ≡ front ++ more → (expression.run fs more e ≡ (Some (expression.done (value_expr fs 0 x).0), (expression.run fs more e).1)) × (rs ++ (expression.run fs more e).1 ≡ roles_expr 0 x (other_token ∷ []))
 rest_reads fs front more e rs x h text =
-    let both : expression.with_roles rs (expression.run fs more e) ≡ (Some (expression.done (value_expr fs 0 x).0), roles_expr 0 x (plain ∷ [])) =
+    let both : expression.with_roles rs (expression.run fs more e) ≡ (Some (expression.done (value_expr fs 0 x).0), roles_expr 0 x (other_token ∷ [])) =
     ap (on_from fs more) (sym h) ∙ sym (run_append fs front more expression.start) ∙ ap (λ us. expression.run fs us expression.start) (sym text) ∙ text_runs fs x in
     (ap (λ (p : expression.Run). (p.0, (expression.run fs more e).1)) both, ap (λ (p : expression.Run). p.1) both)

@@ -5,7 +5,7 @@ use Rattle.cfj_model.specs.declared.class.Field.{Field}
 use Rattle.cfj_model.specs.Grammar.{Declared, spell_field, value_field}
 use Rattle.cfj_model.specs.Marks.{spell_marks, roles_mark, roles_marks, color_of, colored}
 use Rattle.cfj_model.specs.Roles.{Role, used_name}
-use Rattle.cfj_model.specs.Tokens.{Token, Id, OpenParen, Semicolon, At, End}
+use Rattle.cfj_words.specs.Tokens.{Token, Id, OpenParen, Semicolon, At, End}
 use Rattle.cfj_model.specs.TreeRoles.{roles_field}
 use Rattle.fj_parser.specs.declared.goal.Goal.TheVariants as goal
 use Rattle.fj_parser.specs.declared.mode.Owner.TheVariants as owner

@@ -6,9 +6,9 @@ use Rattle.std.proofs.lemmas.List.{length-take-le, take-append-drop}
 use Rattle.std.proofs.lemmas.Str.{utf8_valid_len-IsValidUpTo}
 use Rattle.cfj_model.specs.declared.fault.FaultKind.{FaultKind}
 use Rattle.cfj_model.specs.declared.fault.FaultKind.TheVariants as fault
-use Rattle.cfj_model.specs.Lexemes.{Lexeme, Lexed, Found, AtEnd, NoToken, NoClose, next_lexeme}
-use Rattle.cfj_model.specs.Tokens.{Token, End, token_of, token_seen, Takes, place_of}
-use Rattle.cfj_model.specs.Roles.{Role, plain, Tally, counted, tallied, broken_by, AreWithin}
+use Rattle.cfj_words.specs.Lexemes.{Lexeme, Lexed, Found, AtEnd, NoToken, NoClose, next_lexeme}
+use Rattle.cfj_words.specs.Tokens.{Token, End, token_of, token_seen, Takes, place_of}
+use Rattle.cfj_model.specs.Roles.{Role, other_token, Tally, counted, tallied, broken_by, AreWithin}
 use Rattle.cfj_model.specs.Faults.{Language, IsTextOf, Begins, CanGoOn, IsMisplaced, reserved, other, no_name, Front, lexical_fault, IsLongest, before_no_lexeme, before_misplaced, before_the_end, StandsBehind, IsFirstFault, no_text, breaking, no_lexeme, no_place}
 use Rattle.fj_parser.specs.Laws.{Reads}
 use Rattle.fj_parser.specs.Readers.{Reader, run_of}
@@ -188,8 +188,8 @@ module _ {V : Type 0} (l : Language V) (m : Reader) (laws : Reads l m) where
   -- behind a text the end may stand
   ends : (x : l.Tree) → CanGoOn l (l.spell x [] ++ End ∷ [])
   ends x =
-      let ran : run_of m (l.spell x [] ++ End ∷ []) m.start ≡ (Some (laws.ended x), l.roles x (plain ∷ [])) = ap (λ w. run_of m w m.start) (sym (laws.grammar.spells x [] (End ∷ []))) ∙ laws.complete x in
-      (l.roles x (plain ∷ []) ++ m.pending (laws.ended x), reads_begin l m laws (l.spell x [] ++ End ∷ []) (laws.ended x) (l.roles x (plain ∷ [])) ran)
+      let ran : run_of m (l.spell x [] ++ End ∷ []) m.start ≡ (Some (laws.ended x), l.roles x (other_token ∷ [])) = ap (λ w. run_of m w m.start) (sym (laws.grammar.spells x [] (End ∷ []))) ∙ laws.complete x in
+      (l.roles x (other_token ∷ []) ++ m.pending (laws.ended x), reads_begin l m laws (l.spell x [] ++ End ∷ []) (laws.ended x) (l.roles x (other_token ∷ [])) ran)
 
   -- A text of the language is a front, and the longest.
   abbrev whole_front : {text : List ℕ} {v : V} → IsTextOf l text v → Front l text

@@ -7,8 +7,8 @@ use Rattle.cfj_model.specs.declared.class.Class.{Class}
 use Rattle.cfj_model.specs.declared.class.Field.{Field}
 use Rattle.cfj_model.specs.declared.class.Method.{Method}
 use Rattle.cfj_model.specs.ProductLines.{most_features}
-use Rattle.cfj_model.specs.Roles.{Tally, plain, tallied, AreWithin}
-use Rattle.cfj_model.specs.Tokens.{Token, Id, ClassWord, OpenParen, Semicolon, At, End}
+use Rattle.cfj_model.specs.Roles.{Tally, other_token, tallied, AreWithin}
+use Rattle.cfj_words.specs.Tokens.{Token, Id, ClassWord, OpenParen, Semicolon, At, End}
 use Rattle.expression_reader.specs.Machine as expression
 use Rattle.expression_reader.specs.declared.mode.Mode as reading
 use Rattle.expression_reader.specs.declared.mode.Mode.TheVariants as at
@@ -73,8 +73,8 @@ waits_alike _ = refl
 pub end_emits : (s : State) → emitted (record s { mode = InExpression }) End ≡ emitted (record s { mode = InExpression }) Semicolon
 end_emits s =
     let m = s.expression.mode in
-    ap (λ rs. rs ++ expression.unless (expression.waits_in m End) plain) (settled_alike m (expression.open_frames s.expression.frames))
-    ∙ ap (λ b. expression.settled (expression.settles_in m Semicolon) (expression.pending_in m (expression.open_frames s.expression.frames)) ++ expression.unless b plain) (waits_alike m)
+    ap (λ rs. rs ++ expression.unless (expression.waits_in m End) other_token) (settled_alike m (expression.open_frames s.expression.frames))
+    ∙ ap (λ b. expression.settled (expression.settles_in m Semicolon) (expression.pending_in m (expression.open_frames s.expression.frames)) ++ expression.unless b other_token) (waits_alike m)
 
 -- One more token that breaks nothing.
 counted_for : (g : Goal) (m : Mode) (s : State) (t : Tally) (token : Token) → IsCounted (place_of m) (in_hand s) t → AreWithin t (emitted (record s { mode = m }) token) → CountedBehind m s t token (step_for g m (record s { mode = m }) token)

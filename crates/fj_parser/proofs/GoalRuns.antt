@@ -4,7 +4,7 @@ use Rattle.std.proofs.lemmas.List.{append-nil}
 use Rattle.std.proofs.lemmas.Option.{none-some, same_Some}
 use Rattle.cfj_model.specs.declared.expr.Expr.{Expr}
 use Rattle.cfj_model.specs.Roles.{Role}
-use Rattle.cfj_model.specs.Tokens.{Token}
+use Rattle.cfj_words.specs.Tokens.{Token}
 use Rattle.expression_reader.specs.Machine as expression
 use Rattle.expression_reader.proofs.Finishing.{waited_first}
 use Rattle.fj_parser.specs.Goals.{step_for, reader_for}

@@ -8,17 +8,17 @@ use Rattle.std.proofs.lemmas.List.Sums.{sum_by-cons}
 use Rattle.cfj_model.specs.declared.fault.FaultKind.TheVariants.{Reserved, Twice, Limit}
 use Rattle.cfj_model.specs.declared.fault.LimitKind.TheVariants as limit
 use Rattle.cfj_model.specs.declared.class.Class.{Class}
-use Rattle.cfj_model.specs.Names.{is_identifier, is_short_identifier}
-use Rattle.cfj_model.specs.Tokens.{Token, Id, ClassWord, ExtendsWord, Comma, OpenBrace, Semicolon, CloseBrace}
-use Rattle.cfj_model.specs.ProductLines.{most_features, most_classes, most_fields, most_methods, most_formula_nodes, most_size, object, has, are_new, are_fields, is_ctor, are_methods, is_class, is_constraint, method_size, class_size, size, IsProject}
-use Rattle.cfj_model.specs.declared.formula.Formula.{Formula}
+use Rattle.cfj_words.specs.Names.{is_among, is_identifier, is_short_identifier}
+use Rattle.cfj_words.specs.Tokens.{Token, Id, ClassWord, ExtendsWord, Comma, OpenBrace, Semicolon, CloseBrace}
+use Rattle.cfj_model.specs.ProductLines.{most_features, most_classes, most_fields, most_methods, most_formula_nodes, most_size, object, are_new, are_fields, is_ctor, are_methods, is_class, is_constraint, method_size, class_size, size, IsProject}
+use Rattle.cfj_logic.specs.declared.formula.Formula.{Formula}
 use Rattle.cfj_model.specs.FormulaGrammar.{IffTree, spell_iff, value_iff}
 use Rattle.formula_reader.proofs.Kept.{constraint_kept, Behind, behind_formula}
 use Rattle.formula_reader.proofs.Texts.{spell_iff_append}
-use Rattle.cfj_model.specs.Formulas.{formula_node_count}
+use Rattle.cfj_logic.specs.Formulas.{formula_node_count}
 use Rattle.cfj_model.specs.Grammar.{ClassTree, constraint_word, features_word, spell_name, spell_features, spell_field, spell_ctor, spell_method, spell_constraint, spell_class, spell, value_field, value_ctor, value_method, value_class, value, Tree}
 use Rattle.cfj_model.specs.Marks.{in_order, each_behind}
-use Rattle.cfj_model.specs.Roles.{Role, feature_name, class_name, used_name, plain, Tally, nothing, counted, is_long, past_size, broken_by, AreWithin}
+use Rattle.cfj_model.specs.Roles.{Role, feature_name, class_name, used_name, other_token, Tally, nothing, counted, is_long, past_size, broken_by, AreWithin}
 use Rattle.cfj_model.specs.TreeRoles.{roles_feature, roles_features, roles_field, roles_ctor, roles_method, roles_constraint, roles_class, roles}
 use Rattle.fj_symbols.specs.Views.{is_read, are_read}
 use Rattle.fj_parser.proofs.KeptNames.{NoneHolds, none_holds, short, used_short, sized, known, MarksKept, marks_kept}
@@ -29,13 +29,13 @@ use Rattle.fj_parser.proofs.KeptMembers.{FieldsKept, fields_kept, ctor_size, Cto
 -- a new name of a feature, with room for it
 record FeatureFits (w : List ℕ) (names : List (List ℕ)) : Type 0 where
   length_fits : is_long w ≡ false
-  new : has names w ≡ false
+  new : is_among names w ≡ false
   few : length names < most_features
 
 feature_fits : (t : Tally) (w : List ℕ) → broken_by t (feature_name w) ≡ None → FeatureFits w t.features
-feature_fits t w e = go (none_holds ((is_long w, Limit limit.Name) ∷ ((has t.features w, Twice w) ∷ ((nat_le most_features (length t.features), Limit limit.Features) ∷ []))) e)
+feature_fits t w e = go (none_holds ((is_long w, Limit limit.Name) ∷ ((is_among t.features w, Twice w) ∷ ((nat_le most_features (length t.features), Limit limit.Features) ∷ []))) e)
   where
-    go : NoneHolds ((is_long w, Limit limit.Name) ∷ ((has t.features w, Twice w) ∷ ((nat_le most_features (length t.features), Limit limit.Features) ∷ []))) → FeatureFits w t.features
+    go : NoneHolds ((is_long w, Limit limit.Name) ∷ ((is_among t.features w, Twice w) ∷ ((nat_le most_features (length t.features), Limit limit.Features) ∷ []))) → FeatureFits w t.features
     go (a, (b, (c, end))) = record { length_fits = a; new = b; few = leb-false _ _ c }
 
 -- what is known behind features
@@ -47,7 +47,7 @@ record FeaturesKept (t : Tally) (features : List (List ℕ)) (rest : List Role) 
   within : AreWithin (record t { features = names }) rest
   read : are_read more ≡ true
 
-features_kept : (t : Tally) (fs : List (List ℕ)) (rest : List Role) (more : List Token) → length t.features ≤ most_features → AreWithin t (each_behind plain roles_feature fs rest) → are_read (each_behind Comma spell_name fs more) ≡ true → FeaturesKept t fs rest more
+features_kept : (t : Tally) (fs : List (List ℕ)) (rest : List Role) (more : List Token) → length t.features ≤ most_features → AreWithin t (each_behind other_token roles_feature fs rest) → are_read (each_behind Comma spell_name fs more) ≡ true → FeaturesKept t fs rest more
 features_kept t [] rest more few w r = record { names = t.features; new = refl; few = omega arith; each = refl; within = w; read = r }
 features_kept t (f ∷ fs) rest more few (comma, (named, w)) r =
     let fits : FeatureFits f t.features = feature_fits t f named in
@@ -67,7 +67,7 @@ features_kept t (f ∷ fs) rest more few (comma, (named, w)) r =
 line_kept : (fs : List (List ℕ)) (rest : List Role) (more : List Token) → AreWithin nothing (roles_features fs rest) → are_read (spell_features fs more) ≡ true → FeaturesKept nothing fs rest more
 line_kept [] rest more w r = record { names = []; new = refl; few = omega arith; each = refl; within = w; read = r }
 line_kept (f ∷ fs) rest more (word, w) r =
-    let k : FeaturesKept nothing (f ∷ fs) (plain ∷ rest) (Semicolon ∷ more) = features_kept nothing (f ∷ fs) (plain ∷ rest) (Semicolon ∷ more) (omega arith) (refl, w) (and_parts (is_identifier features_word) (are_read (spell_name f (each_behind Comma spell_name fs (Semicolon ∷ more)))) r).1 in
+    let k : FeaturesKept nothing (f ∷ fs) (other_token ∷ rest) (Semicolon ∷ more) = features_kept nothing (f ∷ fs) (other_token ∷ rest) (Semicolon ∷ more) (omega arith) (refl, w) (and_parts (is_identifier features_word) (are_read (spell_name f (each_behind Comma spell_name fs (Semicolon ∷ more)))) r).1 in
     record { names = k.names; new = k.new; few = k.few; each = k.each; within = k.within.1; read = k.read }
 
 -- ---- classes
@@ -76,14 +76,14 @@ line_kept (f ∷ fs) rest more (word, w) r =
 record ClassFits (t : Tally) (w : List ℕ) : Type 0 where
   length_fits : is_long w ≡ false
   no_object : bytes_eq w object ≡ false
-  new : has t.classes w ≡ false
+  new : is_among t.classes w ≡ false
   few : length t.classes < most_classes
   small : t.size < most_size
 
 class_fits : (t : Tally) (w : List ℕ) → broken_by t (class_name w) ≡ None → ClassFits t w
-class_fits t w e = go (none_holds ((bytes_eq w object, Reserved) ∷ ((is_long w, Limit limit.Name) ∷ ((has t.classes w, Twice w) ∷ ((nat_le most_classes (length t.classes), Limit limit.Classes) ∷ (past_size t ∷ []))))) e)
+class_fits t w e = go (none_holds ((bytes_eq w object, Reserved) ∷ ((is_long w, Limit limit.Name) ∷ ((is_among t.classes w, Twice w) ∷ ((nat_le most_classes (length t.classes), Limit limit.Classes) ∷ (past_size t ∷ []))))) e)
   where
-    go : NoneHolds ((bytes_eq w object, Reserved) ∷ ((is_long w, Limit limit.Name) ∷ ((has t.classes w, Twice w) ∷ ((nat_le most_classes (length t.classes), Limit limit.Classes) ∷ (past_size t ∷ []))))) → ClassFits t w
+    go : NoneHolds ((bytes_eq w object, Reserved) ∷ ((is_long w, Limit limit.Name) ∷ ((is_among t.classes w, Twice w) ∷ ((nat_le most_classes (length t.classes), Limit limit.Classes) ∷ (past_size t ∷ []))))) → ClassFits t w
     go (a, (b, (c, (d, (f, end))))) = record { length_fits = b; no_object = a; new = c; few = leb-false _ _ d; small = leb-false _ _ f }
 
 -- what is known behind a class
@@ -95,7 +95,7 @@ record ClassKept (n : ℕ) (t : Tally) (k : Class) (rest : List Role) (more : Li
   sends : ℕ
   assigns : ℕ
   nodes : ℕ
-  new : has t.classes k.name ≡ false
+  new : is_among t.classes k.name ≡ false
   few : length t.classes < most_classes
   is : is_class n k ≡ true
   small : t.size + class_size k ≤ most_size
@@ -111,17 +111,17 @@ abbrev tokens_behind_ctor : ClassTree → List Token → List Token
 tokens_behind_ctor k more = in_order spell_method k.methods (CloseBrace ∷ more)
 
 abbrev roles_behind_ctor : ClassTree → List Role → List Role
-roles_behind_ctor k rest = in_order roles_method k.methods (plain ∷ rest)
+roles_behind_ctor k rest = in_order roles_method k.methods (other_token ∷ rest)
 
 abbrev tokens_behind_name : ClassTree → List Token → List Token
 tokens_behind_name k more = ExtendsWord ∷ (Id k.parent ∷ (OpenBrace ∷ in_order spell_field k.fields (spell_ctor k (tokens_behind_ctor k more))))
 
 abbrev roles_behind_name : ClassTree → List Role → List Role
-roles_behind_name k rest = plain ∷ (used_name k.parent ∷ (plain ∷ in_order roles_field k.fields (roles_ctor k (roles_behind_ctor k rest))))
+roles_behind_name k rest = other_token ∷ (used_name k.parent ∷ (other_token ∷ in_order roles_field k.fields (roles_ctor k (roles_behind_ctor k rest))))
 
 class_kept : (features : List (List ℕ)) (t : Tally) (k : ClassTree) → (rest : List Role) (more : List Token) → AreWithin t (roles_class k rest) → are_read (spell_class k more) ≡ true → ClassKept (length features) t (value_class features k) rest more
 class_kept features t k rest more w r =
-    let m : MarksKept t (plain ∷ (class_name k.name ∷ roles_behind_name k rest)) (ClassWord ∷ (Id k.name ∷ tokens_behind_name k more)) = marks_kept t k.marks (plain ∷ (class_name k.name ∷ roles_behind_name k rest)) (ClassWord ∷ (Id k.name ∷ tokens_behind_name k more)) w r in
+    let m : MarksKept t (other_token ∷ (class_name k.name ∷ roles_behind_name k rest)) (ClassWord ∷ (Id k.name ∷ tokens_behind_name k more)) = marks_kept t k.marks (other_token ∷ (class_name k.name ∷ roles_behind_name k rest)) (ClassWord ∷ (Id k.name ∷ tokens_behind_name k more)) w r in
     let fits : ClassFits t k.name = class_fits t k.name m.within.1.0 in
     let after : List Token = in_order spell_field k.fields (spell_ctor k (tokens_behind_ctor k more)) in
     let i : (is_identifier k.name ≡ true) × ((is_identifier k.parent && are_read after) ≡ true) = and_parts (is_identifier k.name) (is_identifier k.parent && are_read after) m.read in
@@ -130,7 +130,7 @@ class_kept features t k rest more w r =
     let f : FieldsKept (length features) u (map (value_field features) k.fields) (roles_ctor k (roles_behind_ctor k rest)) (spell_ctor k (tokens_behind_ctor k more)) = fields_kept features u k.fields (roles_ctor k (roles_behind_ctor k rest)) (spell_ctor k (tokens_behind_ctor k more)) (omega arith) (omega (arith, fits.small)) m.within.1.1.1.1.1 j.1 in
     let c : CtorKept (length features) u f.names (t.size + 1 + length (map (value_field features) k.fields)) (value_ctor features k) (roles_behind_ctor k rest) (tokens_behind_ctor k more) = ctor_kept features u f.marks f.names (t.size + 1 + length (map (value_field features) k.fields)) k (roles_behind_ctor k rest) (tokens_behind_ctor k more) f.small f.within f.read in
     let v : Tally = record u { marks = c.marks; fields = f.names; params = c.params; sends = c.sends; assigns = c.assigns; size = t.size + 1 + length (map (value_field features) k.fields) + ctor_size (value_ctor features k) } in
-    let d : MethodsKept (length features) v (map (value_method features) k.methods) (plain ∷ rest) (CloseBrace ∷ more) = methods_kept features v k.methods (plain ∷ rest) (CloseBrace ∷ more) (omega arith) c.small c.within c.read in
+    let d : MethodsKept (length features) v (map (value_method features) k.methods) (other_token ∷ rest) (CloseBrace ∷ more) = methods_kept features v k.methods (other_token ∷ rest) (CloseBrace ∷ more) (omega arith) c.small c.within c.read in
     record {
       marks = d.marks;
       fields = f.names;
@@ -189,7 +189,7 @@ constraints_kept features t (x ∷ xs) rest more few (word, w) r =
     let after : List Token = in_order spell_constraint xs more in
     let others : List Role = in_order roles_constraint xs rest in
     let u : Tally = record t { marks = [] } in
-    let b : Behind features u x (plain ∷ others) = behind_formula features u 0 x (plain ∷ others) few w in
+    let b : Behind features u x (other_token ∷ others) = behind_formula features u 0 x (other_token ∷ others) few w in
     let n : ℕ = formula_node_count (value_iff features x) in
     let v : Tally = record u { marks = b.marks; formula_nodes = u.formula_nodes + n } in
     let read : are_read (Semicolon ∷ after) ≡ true = read_behind (spell_iff x []) (Semicolon ∷ after) (subst (λ z. are_read z ≡ true) (sym (spell_iff_append x [] (Semicolon ∷ after))) (and_parts (is_identifier constraint_word) (are_read (spell_iff x (Semicolon ∷ after))) r).1) in
@@ -199,7 +199,7 @@ constraints_kept features t (x ∷ xs) rest more few (word, w) r =
     record {
       marks = k.marks;
       few = omega (arith, k.few, same);
-      each = and_from _ _ (constraint_kept features u x (plain ∷ others) w) k.each;
+      each = and_from _ _ (constraint_kept features u x (other_token ∷ others) w) k.each;
       within = subst (λ n. AreWithin (record t { marks = k.marks; formula_nodes = n }) rest) same k.within;
       read = k.read;
     }

@@ -11,14 +11,14 @@ use Rattle.cfj_model.specs.declared.class.Field.{Field}
 use Rattle.cfj_model.specs.declared.class.Param.{Param}
 use Rattle.cfj_model.specs.declared.class.Sent.{Sent}
 use Rattle.cfj_model.specs.declared.class.Constructor.{Constructor}
-use Rattle.cfj_model.specs.Names.{is_identifier, is_short_identifier}
-use Rattle.cfj_model.specs.Tokens.{Token, Id, ThisWord, Dot, Equals, Comma, CloseParen, OpenBrace, SuperWord, OpenParen, Semicolon, CloseBrace, ReturnWord}
-use Rattle.cfj_model.specs.ProductLines.{most_fields, most_in_ctor, most_methods, most_size, has, are_new, rise_from, is_field, is_param, is_sent, is_ctor, is_method, method_size, most_params, are_params, is_body}
+use Rattle.cfj_words.specs.Names.{is_among, is_identifier, is_short_identifier}
+use Rattle.cfj_words.specs.Tokens.{Token, Id, ThisWord, Dot, Equals, Comma, CloseParen, OpenBrace, SuperWord, OpenParen, Semicolon, CloseBrace, ReturnWord}
+use Rattle.cfj_model.specs.ProductLines.{most_fields, most_in_ctor, most_methods, most_size, are_new, rise_from, is_field, is_param, is_sent, is_ctor, is_method, method_size, most_params, are_params, is_body}
 use Rattle.cfj_model.specs.Expressions.{node_count}
 use Rattle.cfj_model.specs.declared.class.Method.{Method}
 use Rattle.cfj_model.specs.Grammar.{Declared, Named, MethodTree, ClassTree, spell_field, spell_param, spell_sent, spell_assign, spell_ctor, spell_method, numbered, value_field, value_param, value_sent, value_ctor, value_method}
 use Rattle.cfj_model.specs.Marks.{in_order, each_behind, separated, roles_marks}
-use Rattle.cfj_model.specs.Roles.{Role, field_name, param_name, sent_name, assigned_name, used_name, plain, Tally, counted, broken_by, AreWithin, method_name, method_param_name}
+use Rattle.cfj_model.specs.Roles.{Role, field_name, param_name, sent_name, assigned_name, used_name, other_token, Tally, counted, broken_by, AreWithin, method_name, method_param_name}
 use Rattle.cfj_model.specs.TreeRoles.{roles_field, roles_sent, roles_assign, roles_ctor, roles_method, roles_method_param}
 use Rattle.fj_symbols.specs.Views.{are_read}
 use Rattle.cfj_model.specs.ExpressionGrammar.{spell_expr, roles_expr, value_expr}
@@ -43,7 +43,7 @@ pub fields_kept : (features : List (List ℕ)) (t : Tally) (ds : List Declared) 
 fields_kept features t [] rest more few small w r = record { marks = t.marks; names = t.fields; new = refl; few = omega arith; each = refl; small = omega arith; within = subst (λ n. AreWithin (record t { size = n }) rest) (omega arith) w; read = r }
 fields_kept features t (d ∷ ds) rest more few small w r =
     let after : List Token = in_order spell_field ds more in
-    let m : MarksKept t (used_name d.of ∷ (field_name d.name ∷ (plain ∷ in_order roles_field ds rest))) (Id d.of ∷ (Id d.name ∷ (Semicolon ∷ after))) = marks_kept t d.marks (used_name d.of ∷ (field_name d.name ∷ (plain ∷ in_order roles_field ds rest))) (Id d.of ∷ (Id d.name ∷ (Semicolon ∷ after))) w r in
+    let m : MarksKept t (used_name d.of ∷ (field_name d.name ∷ (other_token ∷ in_order roles_field ds rest))) (Id d.of ∷ (Id d.name ∷ (Semicolon ∷ after))) = marks_kept t d.marks (used_name d.of ∷ (field_name d.name ∷ (other_token ∷ in_order roles_field ds rest))) (Id d.of ∷ (Id d.name ∷ (Semicolon ∷ after))) w r in
     let fits : NameFits d.name t.fields most_fields t.size = name_fits d.name t.fields most_fields t.size (Limit limit.Name) (Twice d.name) (Limit limit.Fields) (Limit limit.Size) m.within.1.0 in
     let i : (is_identifier d.of ≡ true) × ((is_identifier d.name && are_read after) ≡ true) = and_parts (is_identifier d.of) (is_identifier d.name && are_read after) m.read in
     let j : (is_identifier d.name ≡ true) × (are_read after ≡ true) = and_parts (is_identifier d.name) (are_read after) i.1 in
@@ -89,11 +89,11 @@ record ParamsKept (most n : ℕ) (t : Tally) (slot : ℕ) (params : List Param) 
   within : AreWithin (record t { marks = marks; params = names; size = t.size + length params }) rest
   read : are_read more ≡ true
 
-params_kept : (named : List ℕ → Role) (most : ℕ) → NamesParams named most → (features : List (List ℕ)) (t : Tally) (slot : ℕ) (ds : List Declared) (rest : List Role) (more : List Token) → length t.params ≤ most → t.size ≤ most_size → AreWithin t (each_behind plain (roles_declared named) ds rest) → are_read (each_behind Comma spell_param ds more) ≡ true → ParamsKept most (length features) t slot (numbered (value_param features) slot ds) rest more
+params_kept : (named : List ℕ → Role) (most : ℕ) → NamesParams named most → (features : List (List ℕ)) (t : Tally) (slot : ℕ) (ds : List Declared) (rest : List Role) (more : List Token) → length t.params ≤ most → t.size ≤ most_size → AreWithin t (each_behind other_token (roles_declared named) ds rest) → are_read (each_behind Comma spell_param ds more) ≡ true → ParamsKept most (length features) t slot (numbered (value_param features) slot ds) rest more
 params_kept named most names features t slot [] rest more few small w r = record { marks = t.marks; names = t.params; new = refl; rises = refl; few = omega arith; each = refl; small = omega arith; within = subst (λ n. AreWithin (record t { size = n }) rest) (omega arith) w; read = r }
 params_kept named most names features t slot (d ∷ ds) rest more few small (comma, w) r =
     let after : List Token = each_behind Comma spell_param ds more in
-    let others : List Role = each_behind plain (roles_declared named) ds rest in
+    let others : List Role = each_behind other_token (roles_declared named) ds rest in
     let m : MarksKept t (used_name d.of ∷ (named d.name ∷ others)) (Id d.of ∷ (Id d.name ∷ after)) = marks_kept t d.marks (used_name d.of ∷ (named d.name ∷ others)) (Id d.of ∷ (Id d.name ∷ after)) w r in
     let fits : NameFits d.name t.params most t.size = names.fits (record t { marks = [] }) d.name m.within.1.0 in
     let i : (is_identifier d.of ≡ true) × ((is_identifier d.name && are_read after) ≡ true) = and_parts (is_identifier d.of) (is_identifier d.name && are_read after) m.read in
@@ -130,11 +130,11 @@ record SendsKept (n : ℕ) (t : Tally) (slot : ℕ) (sends : List Sent) (rest : 
   within : AreWithin (record t { marks = marks; sends = count; size = t.size + length sends }) rest
   read : are_read more ≡ true
 
-sends_kept : (features : List (List ℕ)) (t : Tally) (slot : ℕ) (ss : List Named) (rest : List Role) (more : List Token) → t.sends ≤ most_in_ctor → t.size ≤ most_size → AreWithin t (each_behind plain roles_sent ss rest) → are_read (each_behind Comma spell_sent ss more) ≡ true → SendsKept (length features) t slot (numbered (value_sent features) slot ss) rest more
+sends_kept : (features : List (List ℕ)) (t : Tally) (slot : ℕ) (ss : List Named) (rest : List Role) (more : List Token) → t.sends ≤ most_in_ctor → t.size ≤ most_size → AreWithin t (each_behind other_token roles_sent ss rest) → are_read (each_behind Comma spell_sent ss more) ≡ true → SendsKept (length features) t slot (numbered (value_sent features) slot ss) rest more
 sends_kept features t slot [] rest more few small w r = record { marks = t.marks; count = t.sends; rises = refl; few = omega arith; each = refl; small = omega arith; within = subst (λ n. AreWithin (record t { size = n }) rest) (omega arith) w; read = r }
 sends_kept features t slot (d ∷ ds) rest more few small (comma, w) r =
     let after : List Token = each_behind Comma spell_sent ds more in
-    let m : MarksKept t (sent_name d.name ∷ each_behind plain roles_sent ds rest) (Id d.name ∷ after) = marks_kept t d.marks (sent_name d.name ∷ each_behind plain roles_sent ds rest) (Id d.name ∷ after) w r in
+    let m : MarksKept t (sent_name d.name ∷ each_behind other_token roles_sent ds rest) (Id d.name ∷ after) = marks_kept t d.marks (sent_name d.name ∷ each_behind other_token roles_sent ds rest) (Id d.name ∷ after) w r in
     let fits : CountFits d.name t.sends most_in_ctor t.size = count_fits d.name t.sends most_in_ctor t.size (Limit limit.Name) (Limit limit.Ctor) (Limit limit.Size) m.within.0 in
     let i : (is_identifier d.name ≡ true) × (are_read after ≡ true) = and_parts (is_identifier d.name) (are_read after) m.read in
     let u : Tally = record t { marks = []; sends = t.sends + 1; size = t.size + 1 } in
@@ -165,7 +165,7 @@ assigns_kept : (features : List (List ℕ)) (t : Tally) (slot : ℕ) (ss : List 
 assigns_kept features t slot [] rest more few small w r = record { marks = t.marks; count = t.assigns; rises = refl; few = omega arith; each = refl; small = omega arith; within = subst (λ n. AreWithin (record t { size = n }) rest) (omega arith) w; read = r }
 assigns_kept features t slot (d ∷ ds) rest more few small w r =
     let after : List Token = in_order spell_assign ds more in
-    let m : MarksKept t (plain ∷ (plain ∷ (assigned_name d.name ∷ (plain ∷ (used_name d.name ∷ (plain ∷ in_order roles_assign ds rest)))))) (ThisWord ∷ (Dot ∷ (Id d.name ∷ (Equals ∷ (Id d.name ∷ (Semicolon ∷ after)))))) = marks_kept t d.marks (plain ∷ (plain ∷ (assigned_name d.name ∷ (plain ∷ (used_name d.name ∷ (plain ∷ in_order roles_assign ds rest)))))) (ThisWord ∷ (Dot ∷ (Id d.name ∷ (Equals ∷ (Id d.name ∷ (Semicolon ∷ after)))))) w r in
+    let m : MarksKept t (other_token ∷ (other_token ∷ (assigned_name d.name ∷ (other_token ∷ (used_name d.name ∷ (other_token ∷ in_order roles_assign ds rest)))))) (ThisWord ∷ (Dot ∷ (Id d.name ∷ (Equals ∷ (Id d.name ∷ (Semicolon ∷ after)))))) = marks_kept t d.marks (other_token ∷ (other_token ∷ (assigned_name d.name ∷ (other_token ∷ (used_name d.name ∷ (other_token ∷ in_order roles_assign ds rest)))))) (ThisWord ∷ (Dot ∷ (Id d.name ∷ (Equals ∷ (Id d.name ∷ (Semicolon ∷ after)))))) w r in
     let fits : CountFits d.name t.assigns most_in_ctor t.size = count_fits d.name t.assigns most_in_ctor t.size (Limit limit.Name) (Limit limit.Ctor) (Limit limit.Size) m.within.1.1.0 in
     let i : (is_identifier d.name ≡ true) × ((is_identifier d.name && are_read after) ≡ true) = and_parts (is_identifier d.name) (is_identifier d.name && are_read after) m.read in
     let u : Tally = record t { marks = []; assigns = t.assigns + 1; size = t.size + 1 } in
@@ -189,10 +189,10 @@ abbrev tokens_behind_params : ClassTree → List Token → List Token
 tokens_behind_params k more = CloseParen ∷ (OpenBrace ∷ (SuperWord ∷ (OpenParen ∷ separated Comma spell_sent k.sends (tokens_behind_sends k more))))
 
 abbrev roles_behind_sends : ClassTree → List Role → List Role
-roles_behind_sends k rest = plain ∷ (plain ∷ in_order roles_assign k.assigns (plain ∷ rest))
+roles_behind_sends k rest = other_token ∷ (other_token ∷ in_order roles_assign k.assigns (other_token ∷ rest))
 
 abbrev roles_behind_params : ClassTree → List Role → List Role
-roles_behind_params k rest = plain ∷ (plain ∷ (plain ∷ (plain ∷ separated plain roles_sent k.sends (roles_behind_sends k rest))))
+roles_behind_params k rest = other_token ∷ (other_token ∷ (other_token ∷ (other_token ∷ separated other_token roles_sent k.sends (roles_behind_sends k rest))))
 
 -- before a constructor
 abbrev pub before_ctor : Tally → List (List ℕ) → List (List ℕ) → ℕ → Tally
@@ -220,7 +220,7 @@ ctor_kept features before marks fields n k rest more small (used, (opened, w)) r
     let u : Tally = record t { marks = p.marks; params = p.names; size = n + length (numbered (value_param features) 0 k.params) } in
     let s : SendsKept (length features) u 0 (numbered (value_sent features) 0 k.sends) (roles_behind_sends k rest) (tokens_behind_sends k more) = sends_kept features u 0 k.sends (roles_behind_sends k rest) (tokens_behind_sends k more) (omega arith) p.small (separated_within u roles_sent k.sends (roles_behind_sends k rest) p.within.1.1.1.1) (separated_read spell_sent k.sends (tokens_behind_sends k more) p.read) in
     let v : Tally = record u { marks = s.marks; sends = s.count; size = u.size + length (numbered (value_sent features) 0 k.sends) } in
-    let a : AssignsKept (length features) v 0 (numbered (value_sent features) 0 k.assigns) (plain ∷ rest) (CloseBrace ∷ more) = assigns_kept features v 0 k.assigns (plain ∷ rest) (CloseBrace ∷ more) (omega arith) s.small s.within.1.1 s.read in
+    let a : AssignsKept (length features) v 0 (numbered (value_sent features) 0 k.assigns) (other_token ∷ rest) (CloseBrace ∷ more) = assigns_kept features v 0 k.assigns (other_token ∷ rest) (CloseBrace ∷ more) (omega arith) s.small s.within.1.1 s.read in
     record {
       marks = a.marks;
       params = p.names;
@@ -242,17 +242,17 @@ abbrev tokens_behind_method_name : MethodTree → List Token → List Token
 tokens_behind_method_name m more = OpenParen ∷ separated Comma spell_param m.params (tokens_behind_head m more)
 
 abbrev roles_behind_head : MethodTree → List Role → List Role
-roles_behind_head m rest = plain ∷ (plain ∷ (plain ∷ roles_expr 0 m.body (plain ∷ (plain ∷ rest))))
+roles_behind_head m rest = other_token ∷ (other_token ∷ (other_token ∷ roles_expr 0 m.body (other_token ∷ (other_token ∷ rest))))
 
 abbrev roles_behind_method_name : MethodTree → List Role → List Role
-roles_behind_method_name m rest = plain ∷ separated plain roles_method_param m.params (roles_behind_head m rest)
+roles_behind_method_name m rest = other_token ∷ separated other_token roles_method_param m.params (roles_behind_head m rest)
 
 -- what is known behind a method
 record MethodKept (n : ℕ) (t : Tally) (m : Method) (rest : List Role) (more : List Token) : Type 0 where
   marks : List (List ℕ)
   params : List (List ℕ)
   nodes : ℕ
-  new : has t.methods m.name ≡ false
+  new : is_among t.methods m.name ≡ false
   few : length t.methods < most_methods
   is : is_method n m ≡ true
   small : t.size + method_size m ≤ most_size
@@ -274,7 +274,7 @@ method_kept features t m rest more w r =
     let ps : List Param = numbered (value_param features) 0 m.params in
     let p : ParamsKept most_params (length features) u 0 ps (roles_behind_head m rest) (tokens_behind_head m more) = params_kept method_param_name most_params method_params features u 0 m.params (roles_behind_head m rest) (tokens_behind_head m more) (omega arith) (omega (arith, fits.small)) (separated_within u (roles_declared method_param_name) m.params (roles_behind_head m rest) a.within.1.1.1) (separated_read spell_param m.params (tokens_behind_head m more) j.1) in
     let v : Tally = record u { marks = p.marks; params = p.names; size = t.size + 1 + length ps } in
-    let b : IsKept features v m.body (plain ∷ (plain ∷ rest)) (Semicolon ∷ (CloseBrace ∷ more)) = body_kept features v m.body (plain ∷ (plain ∷ rest)) (Semicolon ∷ (CloseBrace ∷ more)) refl p.small p.within.1.1.1 p.read in
+    let b : IsKept features v m.body (other_token ∷ (other_token ∷ rest)) (Semicolon ∷ (CloseBrace ∷ more)) = body_kept features v m.body (other_token ∷ (other_token ∷ rest)) (Semicolon ∷ (CloseBrace ∷ more)) refl p.small p.within.1.1.1 p.read in
     let nodes : ℕ = node_count (value_expr features 0 m.body).0 in
     record {
       marks = b.marks;

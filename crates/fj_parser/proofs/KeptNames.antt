@@ -9,12 +9,12 @@ use Rattle.std.proofs.lemmas.Option.{none-some}
 use Rattle.cfj_model.specs.declared.fault.FaultKind.{FaultKind}
 use Rattle.cfj_model.specs.declared.fault.FaultKind.TheVariants.{Limit}
 use Rattle.cfj_model.specs.declared.fault.LimitKind.TheVariants as limit
-use Rattle.cfj_model.specs.Names.{is_identifier, is_short_identifier}
-use Rattle.cfj_model.specs.Tokens.{Token, Comma}
-use Rattle.cfj_model.specs.ProductLines.{most_size, has}
+use Rattle.cfj_words.specs.Names.{is_among, is_identifier, is_short_identifier}
+use Rattle.cfj_words.specs.Tokens.{Token, Comma}
+use Rattle.cfj_model.specs.ProductLines.{most_size}
 use Rattle.cfj_model.specs.Expressions.{are_known}
 use Rattle.cfj_model.specs.Marks.{each_behind, separated, spell_marks, roles_marks, color_at, color_of, colored, colors_of}
-use Rattle.cfj_model.specs.Roles.{Role, used_name, plain, Tally, first_of, is_long, broken_by, AreWithin}
+use Rattle.cfj_model.specs.Roles.{Role, used_name, other_token, Tally, first_of, is_long, broken_by, AreWithin}
 use Rattle.fj_symbols.specs.Views.{are_read}
 
 -- no test holds
@@ -35,7 +35,7 @@ short w i l = and_from _ _ i (le-leb _ _ (ltb-false _ _ l))
 -- a new name, with room for it
 pub record NameFits (w : List ℕ) (names : List (List ℕ)) (most size : ℕ) : Type 0 where
   pub length_fits : is_long w ≡ false
-  pub new : has names w ≡ false
+  pub new : is_among names w ≡ false
   pub few : length names < most
   pub small : size < most_size
 
@@ -45,10 +45,10 @@ pub record CountFits (w : List ℕ) (n most size : ℕ) : Type 0 where
   pub few : n < most
   pub small : size < most_size
 
-pub name_fits : (w : List ℕ) (names : List (List ℕ)) (most size : ℕ) (j k l m : FaultKind) → first_of ((is_long w, j) ∷ ((has names w, k) ∷ ((nat_le most (length names), l) ∷ ((nat_le most_size size, m) ∷ [])))) ≡ None → NameFits w names most size
-name_fits w names most size j k l m e = go (none_holds ((is_long w, j) ∷ ((has names w, k) ∷ ((nat_le most (length names), l) ∷ ((nat_le most_size size, m) ∷ [])))) e)
+pub name_fits : (w : List ℕ) (names : List (List ℕ)) (most size : ℕ) (j k l m : FaultKind) → first_of ((is_long w, j) ∷ ((is_among names w, k) ∷ ((nat_le most (length names), l) ∷ ((nat_le most_size size, m) ∷ [])))) ≡ None → NameFits w names most size
+name_fits w names most size j k l m e = go (none_holds ((is_long w, j) ∷ ((is_among names w, k) ∷ ((nat_le most (length names), l) ∷ ((nat_le most_size size, m) ∷ [])))) e)
   where
-    go : NoneHolds ((is_long w, j) ∷ ((has names w, k) ∷ ((nat_le most (length names), l) ∷ ((nat_le most_size size, m) ∷ [])))) → NameFits w names most size
+    go : NoneHolds ((is_long w, j) ∷ ((is_among names w, k) ∷ ((nat_le most (length names), l) ∷ ((nat_le most_size size, m) ∷ [])))) → NameFits w names most size
     go (a, (b, (c, (d, end)))) = record { length_fits = a; new = b; few = leb-false _ _ c; small = leb-false _ _ d }
 
 pub count_fits : (w : List ℕ) (n most size : ℕ) (j l m : FaultKind) → first_of ((is_long w, j) ∷ ((nat_le most n, l) ∷ ((nat_le most_size size, m) ∷ []))) ≡ None → CountFits w n most size
@@ -61,7 +61,7 @@ pub used_short : (w : List ℕ) (t : Tally) → is_identifier w ≡ true → bro
 used_short w t i e = short w i (none_holds ((is_long w, Limit limit.Name) ∷ []) e).0
 
 -- A comma before the first item changes nothing.
-pub separated_within : {A : Type 0} (t : Tally) (f : A → List Role → List Role) (xs : List A) (rest : List Role) → AreWithin t (separated plain f xs rest) → AreWithin t (each_behind plain f xs rest)
+pub separated_within : {A : Type 0} (t : Tally) (f : A → List Role → List Role) (xs : List A) (rest : List Role) → AreWithin t (separated other_token f xs rest) → AreWithin t (each_behind other_token f xs rest)
 separated_within t f [] rest w = w
 separated_within t f (x ∷ xs) rest w = (refl, w)
 

@@ -5,7 +5,7 @@ use Rattle.cfj_model.specs.Faults.{projects}
 use Rattle.cfj_model.specs.FormulaGrammar.{IffTree}
 use Rattle.cfj_model.specs.Grammar.{ClassTree, Tree, spell}
 use Rattle.cfj_model.specs.Roles.{Role}
-use Rattle.cfj_model.specs.Tokens.{Token, End}
+use Rattle.cfj_words.specs.Tokens.{Token, End}
 use Rattle.formula_reader.specs.Machine as formula
 use Rattle.formula_reader.specs.declared.mode.Mode as formula_mode
 use Rattle.formula_reader.specs.declared.mode.Mode.TheVariants.{Want, After, Done}

@@ -2,10 +2,10 @@
 use Rattle.std.proofs.Common.{◌≡◌, ℕ, Bool, true, false, if◌then◌else◌, codes, List, Option, Some, None, Result, Ok, Err, refl, sym, ap, subst, ◌∙◌, encode_utf8_all, true≢false}
 use Rattle.std.specs.Str.{chars, bytes_eq}
 use Rattle.std.proofs.lemmas.Slice.Eq.{bytes_eq-Decides}
-use Rattle.cfj_model.specs.Names.{is_reserved}
+use Rattle.cfj_words.specs.Names.{is_reserved}
 use Rattle.cfj_model.specs.Faults.{lexical_fault}
-use Rattle.cfj_model.specs.Lexemes.{Lexeme, Word, Mark, Lexed, Found, AtEnd, NoToken, NoClose}
-use Rattle.cfj_model.specs.Tokens.{Id, word_token, token_of, place_of}
+use Rattle.cfj_words.specs.Lexemes.{Lexeme, Word, Mark, Lexed, Found, AtEnd, NoToken, NoClose}
+use Rattle.cfj_words.specs.Tokens.{Id, word_token, token_of, place_of}
 use Rattle.fj_lexer.specs.Kinds.{kind_of, characters_of}
 use Rattle.fj_lexer.specs.Lexing.{IsToken, Gives}
 use Rattle.fj_lexer.specs.declared.lexer.Lexer.{Lexer}

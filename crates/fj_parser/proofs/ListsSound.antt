@@ -4,7 +4,7 @@ use Rattle.std.proofs.lemmas.List.{append-nil}
 use Rattle.std.proofs.lemmas.Slice.Eq.{bytes_eq-Decides}
 use Rattle.std.specs.Str.{bytes_eq}
 use Rattle.cfj_model.specs.declared.class.Sent.{Sent}
-use Rattle.cfj_model.specs.Tokens.{Token, Id, ThisWord, CloseBrace, CloseParen, Semicolon, Comma, Dot, Equals, At}
+use Rattle.cfj_words.specs.Tokens.{Token, Id, ThisWord, CloseBrace, CloseParen, Semicolon, Comma, Dot, Equals, At}
 use Rattle.cfj_model.specs.Grammar.{Declared, Named, spell_param, spell_sent, spell_assign, value_param, value_sent, numbered}
 use Rattle.cfj_model.specs.Marks.{in_order, each_behind, separated, spell_mark, color_of, colored}
 use Rattle.cfj_model.specs.Roles.{Role, used_name}

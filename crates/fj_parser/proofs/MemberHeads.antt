@@ -6,7 +6,7 @@ use Rattle.cfj_model.specs.declared.class.Method.{Method}
 use Rattle.cfj_model.specs.declared.expr.Expr.{Expr}
 use Rattle.cfj_model.specs.Marks.{spell_marks, spell_mark, roles_mark, roles_marks, color_of, colored, colors_of}
 use Rattle.cfj_model.specs.Roles.{method_name, used_name}
-use Rattle.cfj_model.specs.Tokens.{Token, Id, ReturnWord, OpenBrace, CloseBrace, OpenParen, CloseParen, Semicolon, Comma, At, End}
+use Rattle.cfj_words.specs.Tokens.{Token, Id, ReturnWord, OpenBrace, CloseBrace, OpenParen, CloseParen, Semicolon, Comma, At, End}
 use Rattle.expression_reader.specs.Machine as expression
 use Rattle.fj_parser.specs.declared.goal.Goal.TheVariants as goal
 use Rattle.fj_parser.specs.declared.mode.Owner.TheVariants as owner

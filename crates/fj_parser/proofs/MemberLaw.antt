@@ -8,8 +8,8 @@ use Rattle.cfj_model.specs.declared.member.Member.TheVariants as member
 use Rattle.cfj_model.specs.ExpressionGrammar.{chain, variable, stop}
 use Rattle.cfj_model.specs.Grammar.{Declared, MethodTree, spell_field, spell_method, value_field, value_method}
 use Rattle.cfj_model.specs.Marks.{spell_marks, roles_marks, colors_of}
-use Rattle.cfj_model.specs.Roles.{Role, method_name, used_name, plain, are_settled}
-use Rattle.cfj_model.specs.Tokens.{Token, Id, CloseBrace, OpenParen, Semicolon, At, End}
+use Rattle.cfj_model.specs.Roles.{Role, method_name, used_name, other_token, are_settled}
+use Rattle.cfj_words.specs.Tokens.{Token, Id, CloseBrace, OpenParen, Semicolon, At, End}
 use Rattle.cfj_model.specs.TreeRoles.{roles_method}
 use Rattle.fj_parser.specs.declared.goal.Goal.TheVariants as goal
 use Rattle.fj_parser.specs.declared.mode.Mode.{Mode}
@@ -38,11 +38,11 @@ member_before (a_field d) a b = field_before d a b
 member_before (a_method m) a b = method_before m a b
 
 member_roles_before : (x : MemberTree) (a b : List Role) → roles_member x (a ++ b) ≡ roles_member x a ++ b
-member_roles_before (a_field d) a b = mark_roles_before d.marks (used_name d.of ∷ (method_name d.name ∷ (plain ∷ a))) b
+member_roles_before (a_field d) a b = mark_roles_before d.marks (used_name d.of ∷ (method_name d.name ∷ (other_token ∷ a))) b
 member_roles_before (a_method m) a b = method_roles_before m a b
 
 member_settled : (x : MemberTree) → are_settled (roles_member x []) ≡ true
-member_settled (a_field d) = marks_settled d.marks (used_name d.of ∷ (method_name d.name ∷ (plain ∷ []))) refl
+member_settled (a_field d) = marks_settled d.marks (used_name d.of ∷ (method_name d.name ∷ (other_token ∷ []))) refl
 member_settled (a_method m) = method_settled m [] refl
 
 -- the end is taken aside, and so is the semicolon behind a field's name
@@ -77,7 +77,7 @@ module _ (features : List (List ℕ)) where
   member_read (a_field d) ts = head_read features d.marks d.of d.name (Semicolon ∷ ts)
   member_read (a_method m) ts =
       head_read features m.marks m.result m.name (OpenParen ∷ method_rest m ts)
-      ∙ ap (with_roles (λ rs. roles_marks m.marks (used_name m.result ∷ (method_name m.name ∷ (plain ∷ rs))))) (rest_read goal.Member features unnamed same_inside m (colors_of features m.marks) ts (begin features))
+      ∙ ap (with_roles (λ rs. roles_marks m.marks (used_name m.result ∷ (method_name m.name ∷ (other_token ∷ rs))))) (rest_read goal.Member features unnamed same_inside m (colors_of features m.marks) ts (begin features))
 
   -- the machine for projects reads a method too
   method_in_project : (m : MethodTree) → run (spell_method m []) (begin features) ≡ (Some (behind_member (a_method m)), roles_method m [])
@@ -226,7 +226,7 @@ module _ (features : List (List ℕ)) where
   ends (a_field d) = refl
   ends (a_method m) = refl
 
-  gives : (x : MemberTree) → emitted (behind_member x) End ≡ plain ∷ []
+  gives : (x : MemberTree) → emitted (behind_member x) End ≡ other_token ∷ []
   gives (a_field d) = refl
   gives (a_method m) = refl
 

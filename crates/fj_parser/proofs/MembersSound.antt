@@ -4,10 +4,10 @@ use Rattle.std.proofs.lemmas.List.{append-nil}
 use Rattle.std.proofs.lemmas.Slice.Eq.{bytes_eq-Decides}
 use Rattle.std.specs.Str.{bytes_eq}
 use Rattle.cfj_model.specs.declared.class.Field.{Field}
-use Rattle.cfj_model.specs.Tokens.{Token, Id, SuperWord, OpenBrace, CloseBrace, OpenParen, CloseParen, Semicolon, Comma, At}
+use Rattle.cfj_words.specs.Tokens.{Token, Id, SuperWord, OpenBrace, CloseBrace, OpenParen, CloseParen, Semicolon, Comma, At}
 use Rattle.cfj_model.specs.Grammar.{Declared, Named, MethodTree, ClassTree, spell_field, spell_param, spell_sent, spell_assign, spell_ctor, value_field, value_param, value_sent, numbered}
 use Rattle.cfj_model.specs.Marks.{in_order, separated, spell_mark, color_of, colored}
-use Rattle.cfj_model.specs.Roles.{plain}
+use Rattle.cfj_model.specs.Roles.{other_token}
 use Rattle.fj_parser.specs.declared.mode.Owner.TheVariants as owner
 use Rattle.fj_parser.specs.declared.mode.Node.TheVariants as node
 use Rattle.fj_parser.specs.declared.mode.Mode.TheVariants.{AfterMark, InParams, InSends, InAssigns}
@@ -122,7 +122,7 @@ unfolding run_of
 member_read (At ∷ (Id m ∷ ts)) w s h = field (mark_field m ts w (record s { colors = 0 }) (marked_field_read ts w (record s { colors = bit_or 0 (color_of s.features m) }) h))
 member_read (Id a ∷ (Id b ∷ (Semicolon ∷ ts))) w s h = field (record { part = record { marks = []; of = a; name = b }; rest = ts; spelled = refl; shorter = omega arith; goes = h })
 member_read (Id a ∷ (OpenParen ∷ ts)) w s h =
-    let p = passed (bytes_eq a w) (run ts) (plain ∷ []) (record (named w s) { mode = InParams owner.Constructor }) h in
+    let p = passed (bytes_eq a w) (run ts) (other_token ∷ []) (record (named w s) { mode = InParams owner.Constructor }) h in
     let same : a ≡ w = (bytes_eq-Decides a w).0 p.0 in
     ctor (record { rest = ts; spelled = ap (λ x. Id x ∷ (OpenParen ∷ ts)) same; shorter = omega arith; goes = p.1 })
 member_read _ w s h = never h

@@ -6,8 +6,8 @@ use Rattle.cfj_model.specs.declared.expr.Expr.TheVariants as expr
 use Rattle.cfj_model.specs.ExpressionGrammar.{chain, variable, stop}
 use Rattle.cfj_model.specs.Grammar.{MethodTree, spell_method, value_method}
 use Rattle.cfj_model.specs.Marks.{spell_marks, roles_mark, roles_marks, color_of, colored, colors_of}
-use Rattle.cfj_model.specs.Roles.{Role, method_name, used_name, plain}
-use Rattle.cfj_model.specs.Tokens.{Token, Id, CloseBrace, OpenParen, At, End}
+use Rattle.cfj_model.specs.Roles.{Role, method_name, used_name, other_token}
+use Rattle.cfj_words.specs.Tokens.{Token, Id, CloseBrace, OpenParen, At, End}
 use Rattle.cfj_model.specs.TreeRoles.{roles_method}
 use Rattle.fj_parser.specs.declared.goal.Goal.TheVariants as goal
 use Rattle.fj_parser.specs.declared.mode.Node.TheVariants as node
@@ -55,7 +55,7 @@ module _ (features : List (List ℕ)) where
   marks_read (m ∷ ms) ts s = ap (with_roles (roles_mark m)) (marks_read ms ts (record s { colors = bit_or s.colors (color_of s.features m) }))
 
   -- its head
-  head_read : (ms : List (List ℕ)) (result name : List ℕ) (ts : List Token) → method_run_of (spell_marks ms (Id result ∷ (Id name ∷ (OpenParen ∷ ts)))) begin ≡ with_roles (λ rs. roles_marks ms (used_name result ∷ (method_name name ∷ (plain ∷ rs)))) (method_run_of ts (behind_head begin (colors_of features ms) result name))
+  head_read : (ms : List (List ℕ)) (result name : List ℕ) (ts : List Token) → method_run_of (spell_marks ms (Id result ∷ (Id name ∷ (OpenParen ∷ ts)))) begin ≡ with_roles (λ rs. roles_marks ms (used_name result ∷ (method_name name ∷ (other_token ∷ rs)))) (method_run_of ts (behind_head begin (colors_of features ms) result name))
   unfolding run_of
   head_read [] result name ts = refl
   head_read (m ∷ ms) result name ts = ap (with_roles (roles_mark m)) (marks_read ms (Id result ∷ (Id name ∷ (OpenParen ∷ ts))) (record begin { colors = bit_or 0 (color_of features m) }))
@@ -63,7 +63,7 @@ module _ (features : List (List ℕ)) where
   method_read : (m : MethodTree) (ts : List Token) → method_run_of (spell_method m ts) begin ≡ with_roles (roles_method m) (method_run_of ts (behind_method m))
   method_read m ts =
       head_read m.marks m.result m.name (method_rest m ts)
-      ∙ ap (with_roles (λ rs. roles_marks m.marks (used_name m.result ∷ (method_name m.name ∷ (plain ∷ rs))))) (rest_read goal.Method features unnamed same_inside m (colors_of features m.marks) ts begin)
+      ∙ ap (with_roles (λ rs. roles_marks m.marks (used_name m.result ∷ (method_name m.name ∷ (other_token ∷ rs))))) (rest_read goal.Method features unnamed same_inside m (colors_of features m.marks) ts begin)
 
   -- the machine for projects reads it too
   method_in_project : (m : MethodTree) → run (spell_method m []) begin ≡ (Some (behind_method m), roles_method m [])

@@ -5,8 +5,8 @@ use Rattle.cfj_model.specs.declared.expr.Expr.{Expr}
 use Rattle.cfj_model.specs.ExpressionGrammar.{ExprTree, spell_expr, roles_expr, value_expr}
 use Rattle.cfj_model.specs.Grammar.{Declared, MethodTree, spell_param, value_method}
 use Rattle.cfj_model.specs.Marks.{each_behind, separated, spell_marks, color_of}
-use Rattle.cfj_model.specs.Roles.{Role, plain}
-use Rattle.cfj_model.specs.Tokens.{Token, Id, ReturnWord, OpenBrace, CloseBrace, OpenParen, CloseParen, Semicolon, Comma, End}
+use Rattle.cfj_model.specs.Roles.{Role, other_token}
+use Rattle.cfj_words.specs.Tokens.{Token, Id, ReturnWord, OpenBrace, CloseBrace, OpenParen, CloseParen, Semicolon, Comma, End}
 use Rattle.expression_reader.specs.Machine as expression
 use Rattle.expression_reader.proofs.Complete.{text_runs}
 use Rattle.fj_parser.specs.declared.goal.Goal.{Goal}
@@ -76,7 +76,7 @@ expression_stays s e n (t ∷ us) rs x ts goes h whole k = (refl, go (λ m g f. 
 body_stays : (x : ExprTree) (s : State) → Stays (spell_expr x (Semicolon ∷ (CloseBrace ∷ []))) (in_body s expression.start)
 body_stays x s =
     subst (λ w. Stays w (in_body s expression.start)) (sym (expression_text x (CloseBrace ∷ [])))
-    (expression_stays s expression.start (expression.done (value_expr s.features 0 x).0) (spell_expr x (Semicolon ∷ [])) (roles_expr 0 x (plain ∷ [])) (value_expr s.features 0 x).0 (CloseBrace ∷ []) refl (text_runs s.features x) refl (refl, tt))
+    (expression_stays s expression.start (expression.done (value_expr s.features 0 x).0) (spell_expr x (Semicolon ∷ [])) (roles_expr 0 x (other_token ∷ [])) (value_expr s.features 0 x).0 (CloseBrace ∷ []) refl (text_runs s.features x) refl (refl, tt))
 
 -- a method behind its head
 method_rest_stays : (m : MethodTree) (colors : ℕ) (s : State) → Stays (method_rest m []) (behind_head s colors m.result m.name)

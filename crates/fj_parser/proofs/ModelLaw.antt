@@ -4,12 +4,12 @@ use Rattle.std.proofs.Common.{◌≡◌, ℕ, Bool, true, false, ◌&&◌, if◌
 use Rattle.std.proofs.lemmas.Bool.{and_parts, and_from}
 use Rattle.std.proofs.lemmas.Option.{none-some, same_Some}
 use Rattle.std.specs.Str.{bytes_eq}
-use Rattle.cfj_model.specs.declared.formula.Formula.{Formula}
+use Rattle.cfj_logic.specs.declared.formula.Formula.{Formula}
 use Rattle.cfj_model.specs.FormulaGrammar.{IffTree, one_implies, iff, ImpliesTree, one_or, implies, OrTree, one_and, or, AndTree, one_unary, and, UnaryTree, negated, named, true_word, false_word, bracketed, spell_iff, spell_implies, spell_or, spell_and, spell_unary}
 use Rattle.cfj_model.specs.Grammar.{ClassTree, Tree, constraint_word, features_word, spell_name, spell_features, spell_constraint, spell_class, spell}
 use Rattle.cfj_model.specs.Marks.{in_order, each_behind, spell_marks}
-use Rattle.cfj_model.specs.Roles.{Role, plain}
-use Rattle.cfj_model.specs.Tokens.{Token, Id, ClassWord, CloseParen, Semicolon, Comma, Ampersand, Bar, Arrow, DoubleArrow, At, End}
+use Rattle.cfj_model.specs.Roles.{Role, other_token}
+use Rattle.cfj_words.specs.Tokens.{Token, Id, ClassWord, CloseParen, Semicolon, Comma, Ampersand, Bar, Arrow, DoubleArrow, At, End}
 use Rattle.cfj_model.specs.TreeRoles.{roles}
 use Rattle.formula_reader.specs.Machine as formula
 use Rattle.formula_reader.specs.declared.mode.Mode as formula_mode
@@ -232,7 +232,7 @@ read_classless (t ∷ ts) s n rs h e = go (λ m k g. read_classless ts m n (run_
 
 -- ---- the laws
 
-complete : (x : ModelTree) → run_of models_only (spell (without_classes x) (End ∷ [])) start ≡ (Some (ended (without_classes x)), roles (without_classes x) (plain ∷ []))
+complete : (x : ModelTree) → run_of models_only (spell (without_classes x) (End ∷ [])) start ≡ (Some (ended (without_classes x)), roles (without_classes x) (other_token ∷ []))
 complete x = classless_run (spell (without_classes x) (End ∷ [])) start (parts_classless x.features x.constraints (End ∷ [])) ∙ text_runs (without_classes x)
 
 sound : (ts : List Token) (s n : State) (rs : List Role) → run_of models_only ts start ≡ (Some s, rs) → step_for goal.Model s.mode s End ≡ Some n → (x : ModelTree) × (ts ≡ spell (without_classes x) [])

@@ -1,8 +1,8 @@
 -- The laws of the machine where it reads a name.
 use Rattle.std.proofs.Common.{◌≡◌, ℕ, suc, ◌+◌, true, false, List, [], ◌∷◌, ◌++◌, length, Some, None, refl, sym, ap, subst}
 use Rattle.std.proofs.lemmas.Option.{none-some, same_Some}
-use Rattle.cfj_model.specs.Roles.{Role, used_name, plain, are_settled}
-use Rattle.cfj_model.specs.Tokens.{Token, Id, End}
+use Rattle.cfj_model.specs.Roles.{Role, used_name, other_token, are_settled}
+use Rattle.cfj_words.specs.Tokens.{Token, Id, End}
 use Rattle.fj_parser.specs.Goals.{start_for, step_for, takes_name_for, reader_for}
 use Rattle.fj_parser.specs.Languages.{names}
 use Rattle.fj_parser.specs.Laws.{Closes, GoesByName, Reads}
@@ -32,7 +32,7 @@ name_ended w = record first { mode = AtEnd; of = w }
 data Reached : List Token → State → List Role → Type 0 where
   at_first : Reached [] first []
   behind_name : (w : List ℕ) → Reached (Id w ∷ []) (named w) (used_name w ∷ [])
-  at_end : (w : List ℕ) → Reached (Id w ∷ (End ∷ [])) (name_ended w) (used_name w ∷ (plain ∷ []))
+  at_end : (w : List ℕ) → Reached (Id w ∷ (End ∷ [])) (name_ended w) (used_name w ∷ (other_token ∷ []))
 
 -- the same state in the same roles
 as_reached : (ts : List Token) (m n : State) (qs rs : List Role) → ◌≡◌ {A = Run State} (Some m, qs) (Some n, rs) → Reached ts m qs → Reached ts n rs
@@ -49,12 +49,12 @@ reached : (ts : List Token) (s : State) (rs : List Role) → run_of machine ts f
 unfolding run_of
 reached [] s rs h = as_reached [] first s [] rs h at_first
 reached (Id w ∷ []) s rs h = as_reached (Id w ∷ []) (named w) s (used_name w ∷ []) rs h (behind_name w)
-reached (Id w ∷ (End ∷ [])) s rs h = as_reached (Id w ∷ (End ∷ [])) (name_ended w) s (used_name w ∷ (plain ∷ [])) rs h (at_end w)
-reached (Id w ∷ (End ∷ (t ∷ ts))) s rs h = stuck s (used_name w ∷ (plain ∷ [])) rs h
+reached (Id w ∷ (End ∷ [])) s rs h = as_reached (Id w ∷ (End ∷ [])) (name_ended w) s (used_name w ∷ (other_token ∷ [])) rs h (at_end w)
+reached (Id w ∷ (End ∷ (t ∷ ts))) s rs h = stuck s (used_name w ∷ (other_token ∷ [])) rs h
 reached (Id w ∷ (_ ∷ ts)) s rs h = stuck s (used_name w ∷ []) rs h
 reached (_ ∷ ts) s rs h = stuck s [] rs h
 
-complete : (w : List ℕ) → run_of machine (Id w ∷ (End ∷ [])) first ≡ (Some (name_ended w), used_name w ∷ (plain ∷ []))
+complete : (w : List ℕ) → run_of machine (Id w ∷ (End ∷ [])) first ≡ (Some (name_ended w), used_name w ∷ (other_token ∷ []))
 unfolding run_of
 complete w = refl
 
@@ -65,8 +65,8 @@ sound _ _ n _ (behind_name w) e = (w, refl)
 sound _ _ n _ (at_end w) e = absurd (none-some n e)
 
 closes : (ts : List Token) (s : State) (rs : List Role) → Reached ts s rs → Closes names ts rs (pending s)
-closes _ _ _ at_first = record { tree = []; more = Id [] ∷ (End ∷ []); others = used_name [] ∷ (plain ∷ []); text = refl; in_roles = refl }
-closes _ _ _ (behind_name w) = record { tree = w; more = End ∷ []; others = plain ∷ []; text = refl; in_roles = refl }
+closes _ _ _ at_first = record { tree = []; more = Id [] ∷ (End ∷ []); others = used_name [] ∷ (other_token ∷ []); text = refl; in_roles = refl }
+closes _ _ _ (behind_name w) = record { tree = w; more = End ∷ []; others = other_token ∷ []; text = refl; in_roles = refl }
 closes _ _ _ (at_end w) = record { tree = w; more = []; others = []; text = refl; in_roles = refl }
 
 each : (ts : List Token) (s n : State) (rs : List Role) (t : Token) → Reached ts s rs → machine.step s t ≡ Some n → length (emitted s t) + length (pending n) ≡ suc (length (pending s))

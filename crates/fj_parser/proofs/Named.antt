@@ -4,9 +4,9 @@ use Rattle.std.specs.Borrow.{Bor}
 use Rattle.std.proofs.lemmas.Bool.{true≢false, and_from}
 use Rattle.std.proofs.lemmas.Option.{none-some}
 use Rattle.cfj_model.specs.declared.fault.FaultKind.{FaultKind}
-use Rattle.cfj_model.specs.Names.{is_identifier, is_name}
+use Rattle.cfj_words.specs.Names.{is_identifier, is_name}
 use Rattle.cfj_model.specs.Roles.{Role, Tally, broken_by, is_long, AreWithin}
-use Rattle.cfj_model.specs.Tokens.{Token, Id, NewWord, ThisWord, TrueWord, FalseWord, OpenParen, Bang, Ampersand, Bar, Arrow, DoubleArrow, Dot}
+use Rattle.cfj_words.specs.Tokens.{Token, Id, NewWord, ThisWord, TrueWord, FalseWord, OpenParen, Bang, Ampersand, Bar, Arrow, DoubleArrow, Dot}
 use Rattle.expression_reader.specs.declared.mode.Mode as reading
 use Rattle.expression_reader.specs.declared.mode.Mode.TheVariants as at
 use Rattle.expression_reader.specs.Machine as expression

@@ -3,12 +3,12 @@ use lib.Utf8.{encode}
 use Rattle.std.proofs.Common.{◌≡◌, ℕ, Bool, true, false, ◌&&◌, ◌||◌, if◌then◌else◌, List, [], ◌∷◌, codes, Option, Some, None, refl, sym, ap, subst}
 use Rattle.std.specs.Str.{chars, bytes_eq, is_utf8}
 use Rattle.cfj_model.specs.declared.expr.Expr.{Expr}
-use Rattle.cfj_model.specs.declared.formula.Formula.{Formula}
-use Rattle.cfj_model.specs.Names.{is_identifier, is_reserved}
+use Rattle.cfj_logic.specs.declared.formula.Formula.{Formula}
+use Rattle.cfj_words.specs.Names.{is_identifier, is_reserved}
 use Rattle.cfj_model.specs.Grammar.{constraint_word, features_word}
 use Rattle.cfj_model.specs.Roles.{Role}
-use Rattle.cfj_model.specs.Tokens.{Token, Id, ClassWord, ExtendsWord, SuperWord, ThisWord, ReturnWord, OpenBrace, CloseBrace, OpenParen, CloseParen, Semicolon, Comma, Dot, Equals, At, End}
-use Rattle.cfj_model.proofs.Identifiers.{features_is_identifier, constraint_is_identifier}
+use Rattle.cfj_words.specs.Tokens.{Token, Id, ClassWord, ExtendsWord, SuperWord, ThisWord, ReturnWord, OpenBrace, CloseBrace, OpenParen, CloseParen, Semicolon, Comma, Dot, Equals, At, End}
+use Rattle.cfj_words.proofs.Identifiers.{features_is_identifier, constraint_is_identifier}
 use Rattle.fj_symbols.specs.Views.{is_read, are_read}
 use Rattle.formula_reader.specs.Machine as formula
 use Rattle.formula_reader.proofs.Law as formula_law

@@ -8,21 +8,21 @@ use Rattle.std.proofs.lemmas.Option.{none-some, same_Some, slice_get_within}
 use Rattle.cfj_model.specs.declared.fault.FaultKind.{FaultKind}
 use Rattle.cfj_model.specs.declared.fault.FaultKind.TheVariants.{Twice, Limit}
 use Rattle.cfj_model.specs.declared.fault.LimitKind.TheVariants as limit
-use Rattle.cfj_model.specs.Names.{is_identifier, is_name, is_short_identifier, most_name_bytes}
-use Rattle.cfj_model.specs.ProductLines.{has, are_new, are_distinct, most_features}
+use Rattle.cfj_words.specs.Names.{is_among, is_identifier, is_name, is_short_identifier, most_name_bytes}
+use Rattle.cfj_model.specs.ProductLines.{are_new, are_distinct, most_features}
 use Rattle.cfj_model.specs.Roles.{feature_name, broken_by, is_long, first_of}
 use Rattle.fj_parser.specs.Languages.{with_features}
 
 -- of names of which each is new, one isn't among those before it
-new_at : (before ns : List (List ℕ)) (i : ℕ) (w : List ℕ) → are_new before ns ≡ true → slice_get ns i ≡ Some w → has (before ++ take i ns) w ≡ false
+new_at : (before ns : List (List ℕ)) (i : ℕ) (w : List ℕ) → are_new before ns ≡ true → slice_get ns i ≡ Some w → is_among (before ++ take i ns) w ≡ false
 new_at before [] i w e there = absurd (none-some w there)
 new_at before (n ∷ ns) zero w e there =
-    let parts = and_parts (not (has before n)) (are_new (before ++ n ∷ []) ns) e in
+    let parts = and_parts (not (is_among before n)) (are_new (before ++ n ∷ []) ns) e in
     let is : n ≡ w = same_Some n w there in
-    ap (λ x. has x w) (append-nil before) ∙ ap (has before) (sym is) ∙ not-true (has before n) parts.0
+    ap (λ x. is_among x w) (append-nil before) ∙ ap (is_among before) (sym is) ∙ not-true (is_among before n) parts.0
 new_at before (n ∷ ns) (suc i) w e there =
-    let parts = and_parts (not (has before n)) (are_new (before ++ n ∷ []) ns) e in
-    ap (λ x. has x w) (sym (append_assoc before (n ∷ []) (take i ns))) ∙ new_at (before ++ n ∷ []) ns i w parts.1 there
+    let parts = and_parts (not (is_among before n)) (are_new (before ++ n ∷ []) ns) e in
+    ap (λ x. is_among x w) (sym (append_assoc before (n ∷ []) (take i ns))) ∙ new_at (before ++ n ∷ []) ns i w parts.1 there
 
 -- a name has no more bytes than a name may have
 name_short : (w : List ℕ) → is_name w ≡ true → is_long w ≡ false
@@ -46,4 +46,4 @@ feature_fits names i w few distinct named there =
     let within : i < length names = slice_get_within names i w there in
     let most : length names ≤ most_features = leb-true _ _ few in
     let long : length (take i names) ≡ i = length-take-le i names (omega arith) in
-    no_test (is_long w) (has (take i names) w) (nat_le most_features (length (take i names))) (Limit limit.Name) (Twice w) (Limit limit.Features) (name_short w named) (new_at [] names i w distinct there) (lt-leb _ _ (omega arith))
+    no_test (is_long w) (is_among (take i names) w) (nat_le most_features (length (take i names))) (Limit limit.Name) (Twice w) (Limit limit.Features) (name_short w named) (new_at [] names i w distinct there) (lt-leb _ _ (omega arith))

@@ -6,9 +6,9 @@ use Rattle.std.specs.List.{slice_get}
 use Rattle.std.specs.Str.{chars, IsUtf8}
 use Rattle.cfj_model.specs.declared.fault.FaultKind.{FaultKind}
 use Rattle.cfj_model.specs.Faults.{Language, IsFirstFault, StandsBehind, lexical_fault}
-use Rattle.cfj_model.specs.Lexemes.{Lexeme, Found, next_lexeme}
+use Rattle.cfj_words.specs.Lexemes.{Lexeme, Found, next_lexeme}
 use Rattle.cfj_model.specs.Roles.{Tally}
-use Rattle.cfj_model.specs.Tokens.{Token, token_of, token_seen, place_of}
+use Rattle.cfj_words.specs.Tokens.{Token, token_of, token_seen, place_of}
 use Rattle.fj_parser.specs.Accepting.{IsAccepted, IsBrokenAt, IsToldAt}
 use Rattle.fj_parser.specs.Laws.{Reads}
 use Rattle.fj_parser.specs.Readers.{Reader, SettlesEach}

@@ -5,9 +5,9 @@ use Rattle.std.proofs.lemmas.Option.{none-some, some_pair_parts}
 use Rattle.std.specs.Str.{chars, IsUtf8}
 use Rattle.cfj_model.specs.declared.fault.FaultKind.{FaultKind}
 use Rattle.cfj_model.specs.Faults.{Language, IsTextOf, Begins, Front, IsLongest, before_no_lexeme, before_misplaced, before_the_end, StandsBehind, IsFirstFault, breaking, no_lexeme, no_place, lexical_fault}
-use Rattle.cfj_model.specs.Lexemes.{Lexeme, Lexed, Found, AtEnd, NoToken, NoClose, next_lexeme}
-use Rattle.cfj_model.specs.Roles.{Role, plain, Tally, counted, tallied, broken_by, AreWithin}
-use Rattle.cfj_model.specs.Tokens.{Token, End, Takes, token_of, token_seen, place_of}
+use Rattle.cfj_words.specs.Lexemes.{Lexeme, Lexed, Found, AtEnd, NoToken, NoClose, next_lexeme}
+use Rattle.cfj_model.specs.Roles.{Role, other_token, Tally, counted, tallied, broken_by, AreWithin}
+use Rattle.cfj_words.specs.Tokens.{Token, End, Takes, token_of, token_seen, place_of}
 use Rattle.fj_parser.specs.Accepting.{BreaksAt, IsAccepted, IsRefused, settled, waiting, misplaced}
 use Rattle.fj_parser.specs.Laws.{Reads}
 use Rattle.fj_parser.specs.Readers.{Reader, SettlesEach, run_of}
@@ -35,14 +35,14 @@ record Before (xs : List Role) (r : Role) (zs : List Role) : Type 0 where
   after : List Role
   all : zs ≡ xs ++ r ∷ after
 
-not_last : (t : Tally) (xs : List Role) (r : Role) (ys zs : List Role) (kind : FaultKind) → broken_by t r ≡ Some kind → xs ++ r ∷ ys ≡ zs ++ plain ∷ [] → Before xs r zs
+not_last : (t : Tally) (xs : List Role) (r : Role) (ys zs : List Role) (kind : FaultKind) → broken_by t r ≡ Some kind → xs ++ r ∷ ys ≡ zs ++ other_token ∷ [] → Before xs r zs
 not_last t [] r ys [] kind b e =
-    let is : r ≡ plain = cc e in
+    let is : r ≡ other_token = cc e in
     absurd (none-some kind (ap (broken_by t) (sym is) ∙ b))
 not_last t [] r ys (z ∷ zs) kind b e = let is : r ≡ z = cc e in record { after = zs; all = ap (λ x. x ∷ zs) (sym is) }
 not_last t (x ∷ xs) r ys [] kind b e = no xs e
   where
-    no : (ws : List Role) → x ∷ (ws ++ r ∷ ys) ≡ plain ∷ [] → Before (x ∷ xs) r []
+    no : (ws : List Role) → x ∷ (ws ++ r ∷ ys) ≡ other_token ∷ [] → Before (x ∷ xs) r []
     no [] e = absurd (let f : r ∷ ys ≡ [] = cc e in let clash : ⊥ = cc f in clash)
     no (w ∷ ws) e = absurd (let f : w ∷ (ws ++ r ∷ ys) ≡ [] = cc e in let clash : ⊥ = cc f in clash)
 not_last t (x ∷ xs) r ys (z ∷ zs) kind b e =
@@ -128,7 +128,7 @@ module _ {V : Type 0} (l : Language V) (m : Reader) (laws : Reads l m) where
   end_breaks : (text rest : List ℕ) (s n : m.State) (t : Tally) (place : ℕ) (kind : FaultKind) (from : List ℕ) → IsUtf8 text → (h : IsReading l.met m text rest s t) → next_lexeme (chars rest) ≡ AtEnd → m.step s End ≡ Some n → BreaksAt t (m.emitted s End) place kind → StandsBehind text (take (length h.roles + place) h.tokens) from → IsFirstFault l text (place_of text from) kind
   end_breaks text rest s n t place kind from utf8 h ended goes b stands =
       let w : WholeText l m laws h.tokens n (h.roles ++ m.emitted s End) = text_read l m laws h.tokens s n h.roles h.ran goes in
-      let both : (h.roles ++ b.before) ++ b.r ∷ b.after ≡ l.roles w.tree [] ++ plain ∷ [] = append_assoc h.roles b.before (b.r ∷ b.after) ∙ ap (λ z. h.roles ++ z) (sym b.all) ∙ w.in_roles in
+      let both : (h.roles ++ b.before) ++ b.r ∷ b.after ≡ l.roles w.tree [] ++ other_token ∷ [] = append_assoc h.roles b.before (b.r ∷ b.after) ∙ ap (λ z. h.roles ++ z) (sym b.all) ∙ w.in_roles in
       let k : Before (h.roles ++ b.before) b.r (l.roles w.tree []) = not_last (tallied t b.before) (h.roles ++ b.before) b.r b.after (l.roles w.tree []) kind b.breaks both in
       let f : Front l text = record { utf8 = utf8; tokens = h.tokens; rest = chars rest; taken = h.taken; roles = l.roles w.tree []; begins = subst (λ z. Begins l z (l.roles w.tree [])) (sym w.spelled) (begun l m laws w.tree); settled = laws.grammar.settled w.tree } in
       broken_in text rest s t (m.emitted s End) place kind from h f (before_the_end ended (can_go_on l m laws h.tokens End s n h.roles h.ran goes)) b k.after k.all refl stands
@@ -172,6 +172,6 @@ module _ {V : Type 0} (l : Language V) (m : Reader) (laws : Reads l m) where
         rest = chars rest;
         spelled = subst (λ ts. Takes (chars text) ts (chars rest)) w.spelled h.taken;
         ended = e;
-        within = within_front l.met (l.roles w.tree []) (plain ∷ []) (subst (AreWithin l.met) w.in_roles all);
+        within = within_front l.met (l.roles w.tree []) (other_token ∷ []) (subst (AreWithin l.met) w.in_roles all);
         valued = w.valued;
       }

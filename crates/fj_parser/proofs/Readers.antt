@@ -3,8 +3,8 @@
 use Rattle.std.proofs.Common.{◌≡◌, ℕ, suc, ◌+◌, ◌<◌, ◌≤◌, Bool, true, false, ◌&&◌, if◌then◌else◌, List, [], ◌∷◌, ◌++◌, length, Option, Some, None, refl, sym, ◌∙◌, ap, subst, arith, append_assoc, length-append, nat_le}
 use Rattle.std.proofs.lemmas.Bool.{leb-true, and_parts}
 use Rattle.std.proofs.lemmas.Option.{none-some, same_Some}
-use Rattle.cfj_model.specs.Tokens.{Token, Id, End, is_reserved_word}
-use Rattle.cfj_model.specs.Roles.{Role, casts, plain, is_settled, are_settled}
+use Rattle.cfj_words.specs.Tokens.{Token, Id, End, is_reserved_word}
+use Rattle.cfj_model.specs.Roles.{Role, casts, other_token, is_settled, are_settled}
 use Rattle.cfj_model.specs.declared.fault.FaultKind.TheVariants as fault
 use Rattle.cfj_model.specs.Faults.{Language, Begins, CanGoOn, IsMisplaced, reserved, other, no_name}
 use Rattle.fj_symbols.specs.Views.{are_read}
@@ -143,12 +143,12 @@ module _ {V : Type 0} (l : Language V) (m : Reader) (laws : Reads l m) where
     others : List Role
     ran : run_of m ts m.start ≡ (Some s, rs)
     onwards : run_of m more s ≡ (Some (laws.ended x), others)
-    all : l.roles x (plain ∷ []) ≡ rs ++ others
+    all : l.roles x (other_token ∷ []) ≡ rs ++ others
 
   left : (ts more : List Token) (x : l.Tree) → l.spell x (End ∷ []) ≡ ts ++ more → Left ts more x
   left ts more x e = go (run_of m ts m.start) refl (sym (laws.complete x) ∙ ap (λ w. run_of m w m.start) e ∙ run_append m ts more m.start)
     where
-      go : (p : Run m.State) → run_of m ts m.start ≡ p → (Some (laws.ended x), l.roles x (plain ∷ [])) ≡ on_from m more p → Left ts more x
+      go : (p : Run m.State) → run_of m ts m.start ≡ p → (Some (laws.ended x), l.roles x (other_token ∷ [])) ≡ on_from m more p → Left ts more x
       go (None, qs) r h = absurd (none-some (laws.ended x) (sym (ap (λ p. p.0) h)))
       go (Some s, qs) r h =
           record { s = s; rs = qs; others = (run_of m more s).1; ran = r; onwards = ap (λ o. (o, (run_of m more s).1)) (sym (ap (λ p. p.0) h)); all = ap (λ p. p.1) h }
@@ -201,7 +201,7 @@ module _ {V : Type 0} (l : Language V) (m : Reader) (laws : Reads l m) where
   pub record WholeText (front : List Token) (n : m.State) (rs : List Role) : Type 0 where
     pub tree : l.Tree
     pub spelled : front ≡ l.spell tree []
-    pub in_roles : rs ≡ l.roles tree [] ++ plain ∷ []
+    pub in_roles : rs ≡ l.roles tree [] ++ other_token ∷ []
     pub valued : laws.stands_for n ≡ l.value tree
 
   pub text_read : (front : List Token) (s n : m.State) (rs : List Role) → run_of m front m.start ≡ (Some s, rs) → m.step s End ≡ Some n → WholeText front n (rs ++ m.emitted s End)
@@ -209,27 +209,27 @@ module _ {V : Type 0} (l : Language V) (m : Reader) (laws : Reads l m) where
     where
       go : ((x : l.Tree) × (front ≡ l.spell x [])) → WholeText front n (rs ++ m.emitted s End)
       go (x, is) =
-          let whole : (Some n, rs ++ m.emitted s End) ≡ (Some (laws.ended x), l.roles x (plain ∷ [])) = sym (run_more m front End s n rs h ends) ∙ ap (λ w. run_of m (w ++ End ∷ []) m.start) is ∙ ap (λ w. run_of m w m.start) (sym (laws.grammar.spells x [] (End ∷ []))) ∙ laws.complete x in
+          let whole : (Some n, rs ++ m.emitted s End) ≡ (Some (laws.ended x), l.roles x (other_token ∷ [])) = sym (run_more m front End s n rs h ends) ∙ ap (λ w. run_of m (w ++ End ∷ []) m.start) is ∙ ap (λ w. run_of m w m.start) (sym (laws.grammar.spells x [] (End ∷ []))) ∙ laws.complete x in
           record {
             tree = x;
             spelled = is;
-            in_roles = ap (λ p. p.1) whole ∙ laws.grammar.gives x [] (plain ∷ []);
+            in_roles = ap (λ p. p.1) whole ∙ laws.grammar.gives x [] (other_token ∷ []);
             valued = ap laws.stands_for (same_Some n (laws.ended x) (ap (λ p. p.0) whole)) ∙ laws.valued x;
           }
 
   -- a text of the language begins with all its tokens
   pub begun : (x : l.Tree) → Begins l (l.spell x []) (l.roles x [])
   begun x =
-      let long : length (l.roles x (plain ∷ [])) + length (m.pending (laws.ended x)) ≡ length (l.spell x (End ∷ [])) = front_long (l.spell x (End ∷ [])) (laws.ended x) (l.roles x (plain ∷ [])) (laws.complete x) in
+      let long : length (l.roles x (other_token ∷ [])) + length (m.pending (laws.ended x)) ≡ length (l.spell x (End ∷ [])) = front_long (l.spell x (End ∷ [])) (laws.ended x) (l.roles x (other_token ∷ [])) (laws.complete x) in
       let none : length (m.pending (laws.ended x)) ≡ 0 = ap length (laws.last x) in
       let tokens : length (l.spell x (End ∷ [])) ≡ length (l.spell x []) + 1 = ap length (laws.grammar.spells x [] (End ∷ [])) ∙ length-append (l.spell x []) (End ∷ []) in
-      let given : length (l.roles x (plain ∷ [])) ≡ length (l.roles x []) + 1 = ap length (laws.grammar.gives x [] (plain ∷ [])) ∙ length-append (l.roles x []) (plain ∷ []) in
+      let given : length (l.roles x (other_token ∷ [])) ≡ length (l.roles x []) + 1 = ap length (laws.grammar.gives x [] (other_token ∷ [])) ∙ length-append (l.roles x []) (other_token ∷ []) in
       record {
         tree = x;
         more = End ∷ [];
-        others = plain ∷ [];
+        others = other_token ∷ [];
         text = laws.grammar.spells x [] (End ∷ []);
-        in_roles = laws.grammar.gives x [] (plain ∷ []);
+        in_roles = laws.grammar.gives x [] (other_token ∷ []);
         each = omega arith;
       }
 
@@ -237,5 +237,5 @@ module _ {V : Type 0} (l : Language V) (m : Reader) (laws : Reads l m) where
   pub same_value : (a b : l.Tree) → l.spell a [] ≡ l.spell b [] → l.value a ≡ l.value b
   same_value a b e =
       let texts : l.spell a (End ∷ []) ≡ l.spell b (End ∷ []) = laws.grammar.spells a [] (End ∷ []) ∙ ap (λ x. x ++ End ∷ []) e ∙ sym (laws.grammar.spells b [] (End ∷ [])) in
-      let ran : (Some (laws.ended a), l.roles a (plain ∷ [])) ≡ (Some (laws.ended b), l.roles b (plain ∷ [])) = sym (laws.complete a) ∙ ap (λ x. run_of m x m.start) texts ∙ laws.complete b in
+      let ran : (Some (laws.ended a), l.roles a (other_token ∷ [])) ≡ (Some (laws.ended b), l.roles b (other_token ∷ [])) = sym (laws.complete a) ∙ ap (λ x. run_of m x m.start) texts ∙ laws.complete b in
       sym (laws.valued a) ∙ ap laws.stands_for (same_Some (laws.ended a) (laws.ended b) (ap (λ p. p.0) ran)) ∙ laws.valued b

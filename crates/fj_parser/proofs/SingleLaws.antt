@@ -3,8 +3,8 @@ use Rattle.std.proofs.Common.{◌≡◌, ℕ, suc, ◌+◌, true, false, List, [
 use Rattle.std.proofs.lemmas.List.{append-nil}
 use Rattle.std.proofs.lemmas.Option.{none-some, same_Some}
 use Rattle.cfj_model.specs.Faults.{Language}
-use Rattle.cfj_model.specs.Roles.{Role, plain, are_settled}
-use Rattle.cfj_model.specs.Tokens.{Token, Id, End}
+use Rattle.cfj_model.specs.Roles.{Role, other_token, are_settled}
+use Rattle.cfj_words.specs.Tokens.{Token, Id, End}
 use Rattle.fj_symbols.specs.Views.{are_read}
 use Rattle.fj_parser.specs.declared.goal.Goal.{Goal}
 use Rattle.fj_parser.specs.declared.mode.Mode.TheVariants.{AtEnd}
@@ -77,7 +77,7 @@ module _ (g : Goal) (fs : List (List ℕ)) (class : List ℕ) where
       pub in_expression : IsSameInExpression g fs class
       pub only_end : (x : l.Tree) (n : State) (t : Token) → step_for g (done x).mode (done x) t ≡ Some n → t ≡ End
       pub ends : (x : l.Tree) → step_for g (done x).mode (done x) End ≡ Some (record (done x) { mode = AtEnd })
-      pub gives : (x : l.Tree) → emitted (done x) End ≡ plain ∷ []
+      pub gives : (x : l.Tree) → emitted (done x) End ≡ other_token ∷ []
       pub waits : (x : l.Tree) → pending (done x) ≡ []
       pub takes : (x : l.Tree) → takes_name_for g (done x).mode (done x) ≡ false
       pub stops : (s : State) (t : Token) → step_for g AtEnd s t ≡ None
@@ -98,7 +98,7 @@ module _ (g : Goal) (fs : List (List ℕ)) (class : List ℕ) where
       unfolding run_of
       behind_run x = part.read x []
 
-      pub ended_run : (x : l.Tree) → part_run (l.spell x (End ∷ [])) first_state ≡ (Some (at_end x), l.roles x (plain ∷ []))
+      pub ended_run : (x : l.Tree) → part_run (l.spell x (End ∷ [])) first_state ≡ (Some (at_end x), l.roles x (other_token ∷ []))
       unfolding run_of
       ended_run x =
           part.read x (End ∷ [])
@@ -112,8 +112,8 @@ module _ (g : Goal) (fs : List (List ℕ)) (class : List ℕ) where
       is_behind : (front : List Token) (s : State) (rs : List Role) (x : l.Tree) → part_run front first_state ≡ (Some s, rs) → front ≡ l.spell x [] → (s ≡ part.done x) × (rs ≡ l.roles x [])
       is_behind front s rs x h is = same_state (l.spell x []) s (part.done x) rs (l.roles x []) (ap (λ w. part_run w first_state) (sym is) ∙ h) (behind_run x)
 
-      is_ended : (front : List Token) (s : State) (rs : List Role) (x : l.Tree) → part_run front first_state ≡ (Some s, rs) → front ≡ l.spell x (End ∷ []) → (s ≡ at_end x) × (rs ≡ l.roles x (plain ∷ []))
-      is_ended front s rs x h is = same_state (l.spell x (End ∷ [])) s (at_end x) rs (l.roles x (plain ∷ [])) (ap (λ w. part_run w first_state) (sym is) ∙ h) (ended_run x)
+      is_ended : (front : List Token) (s : State) (rs : List Role) (x : l.Tree) → part_run front first_state ≡ (Some s, rs) → front ≡ l.spell x (End ∷ []) → (s ≡ at_end x) × (rs ≡ l.roles x (other_token ∷ []))
+      is_ended front s rs x h is = same_state (l.spell x (End ∷ [])) s (at_end x) rs (l.roles x (other_token ∷ [])) (ap (λ w. part_run w first_state) (sym is) ∙ h) (ended_run x)
 
       -- nothing follows the end
       no_step : (s n : State) (t : Token) (x : l.Tree) → s ≡ at_end x → step_for g s.mode s t ≡ Some n → ⊥
@@ -176,9 +176,9 @@ module _ (g : Goal) (fs : List (List ℕ)) (class : List ℕ) where
               record {
                 tree = x;
                 more = z ++ End ∷ [];
-                others = w.0 ++ plain ∷ [];
+                others = w.0 ++ other_token ∷ [];
                 text = sym (append_assoc front z (End ∷ [])) ∙ ap (λ u. u ++ End ∷ []) (sym text) ∙ sym (part.grammar.spells x [] (End ∷ []));
-                in_roles = part.grammar.gives x [] (plain ∷ []) ∙ ap (λ q. q ++ plain ∷ []) w.1 ∙ append_assoc rs (pending s ++ w.0) (plain ∷ []) ∙ ap (λ q. rs ++ q) (append_assoc (pending s) w.0 (plain ∷ []));
+                in_roles = part.grammar.gives x [] (other_token ∷ []) ∙ ap (λ q. q ++ other_token ∷ []) w.1 ∙ append_assoc rs (pending s ++ w.0) (other_token ∷ []) ∙ ap (λ q. rs ++ q) (append_assoc (pending s) w.0 (other_token ∷ []));
               }
 
       -- behind the end
@@ -243,9 +243,9 @@ module _ (g : Goal) (fs : List (List ℕ)) (class : List ℕ) where
               record {
                 tree = x;
                 more = End ∷ [];
-                others = plain ∷ [];
+                others = other_token ∷ [];
                 text = ap (λ w. w ++ End ∷ []) is ∙ sym (part.grammar.spells x [] (End ∷ []));
-                in_roles = part.grammar.gives x [] (plain ∷ []) ∙ ap (λ q. q ++ plain ∷ []) (sym at.1) ∙ ap (λ (q : List Role). rs ++ (q ++ plain ∷ [])) (sym (part.waits x) ∙ ap pending (sym at.0));
+                in_roles = part.grammar.gives x [] (other_token ∷ []) ∙ ap (λ q. q ++ other_token ∷ []) (sym at.1) ∙ ap (λ (q : List Role). rs ++ (q ++ other_token ∷ [])) (sym (part.waits x) ∙ ap pending (sym at.0));
               }
           by (ended x is) =
               let at = is_ended part front s rs x h is in
@@ -285,7 +285,7 @@ module _ (g : Goal) (fs : List (List ℕ)) (class : List ℕ) where
               ap are_settled (ap (λ q. rs ++ q) (ap pending at.0 ∙ part.waits x) ∙ append-nil rs ∙ at.1) ∙ part.grammar.settled x
           by (ended x is) =
               let at = is_ended part front s rs x h is in
-              ap are_settled (ap (λ y. rs ++ pending y) at.0 ∙ append-nil rs ∙ at.1 ∙ part.grammar.gives x [] (plain ∷ [])) ∙ settled_append (l.roles x []) (plain ∷ []) (part.grammar.settled x) refl
+              ap are_settled (ap (λ y. rs ++ pending y) at.0 ∙ append-nil rs ∙ at.1 ∙ part.grammar.gives x [] (other_token ∷ [])) ∙ settled_append (l.roles x []) (other_token ∷ []) (part.grammar.settled x) refl
 
       named : (front : List Token) (s : State) (rs : List Role) → part_run front first_state ≡ (Some s, rs) → are_read front ≡ true → takes_name_for g s.mode s ≡ true → GoesByName (reader_for g fs class) s
       named front s rs h read name = by (path front s rs h)

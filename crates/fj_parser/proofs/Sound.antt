@@ -4,12 +4,12 @@ use Rattle.std.proofs.lemmas.Option.{same_Some}
 use Rattle.std.proofs.lemmas.Slice.Eq.{bytes_eq-Decides}
 use Rattle.std.specs.Str.{bytes_eq}
 use Rattle.cfj_model.specs.declared.class.Class.{Class}
-use Rattle.cfj_model.specs.Tokens.{Token, Id, ClassWord, ExtendsWord, OpenBrace, Semicolon, Comma, At, End}
-use Rattle.cfj_model.specs.declared.formula.Formula.{Formula}
+use Rattle.cfj_words.specs.Tokens.{Token, Id, ClassWord, ExtendsWord, OpenBrace, Semicolon, Comma, At, End}
+use Rattle.cfj_logic.specs.declared.formula.Formula.{Formula}
 use Rattle.cfj_model.specs.FormulaGrammar.{IffTree, spell_iff}
 use Rattle.cfj_model.specs.Grammar.{Declared, MethodTree, ClassTree, Tree, constraint_word, features_word, spell_name, spell_field, spell_ctor, spell_constraint, spell_class, spell, value_class}
 use Rattle.cfj_model.specs.Marks.{in_order, each_behind, spell_mark, spell_marks, color_of, colored, colors_of}
-use Rattle.cfj_model.specs.Roles.{Role, used_name, plain}
+use Rattle.cfj_model.specs.Roles.{Role, used_name, other_token}
 use Rattle.fj_parser.specs.declared.mode.Node.TheVariants as node
 use Rattle.fj_parser.specs.declared.mode.Mode.TheVariants.{AfterFeatures, AfterFeature, Start, InConstraint, AfterMark, AfterClass}
 use Rattle.formula_reader.specs.Machine as formula
@@ -188,7 +188,7 @@ ends_formula t ts s f n x e whole h =
         record {
           us = Semicolon ∷ [];
           rest = ts;
-          rs = plain ∷ [];
+          rs = other_token ∷ [];
           value = y;
           split = ap (λ u. u ∷ ts) semicolon;
           shorter = omega arith;

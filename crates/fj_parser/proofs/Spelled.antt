@@ -1,6 +1,6 @@
 -- What follows a tree's tokens, or its roles, stands behind them.
 use Rattle.std.proofs.Common.{◌≡◌, true, List, [], ◌∷◌, ◌++◌, ℕ, ◌+◌, refl, sym, ap, ◌∙◌}
-use Rattle.cfj_model.specs.Tokens.{Token, Id, ClassWord, ExtendsWord, SuperWord, ThisWord, ReturnWord, OpenBrace, CloseBrace, OpenParen, CloseParen, Semicolon, Comma, Dot, Equals}
+use Rattle.cfj_words.specs.Tokens.{Token, Id, ClassWord, ExtendsWord, SuperWord, ThisWord, ReturnWord, OpenBrace, CloseBrace, OpenParen, CloseParen, Semicolon, Comma, Dot, Equals}
 use Rattle.cfj_model.specs.Grammar.{Declared, Named, MethodTree, ClassTree, Tree, constraint_word, features_word, spell_name, spell_features, spell_field, spell_param, spell_sent, spell_assign, spell_ctor, spell_method, spell_constraint, spell_class, spell}
 use Rattle.cfj_model.specs.Faults.{projects, single_classes}
 use Rattle.cfj_model.specs.ExpressionGrammar.{spell_expr, roles_expr}
@@ -8,7 +8,7 @@ use Rattle.cfj_model.specs.FormulaGrammar.{IffTree, one_implies, iff, ImpliesTre
 use Rattle.formula_reader.proofs.Texts.{spell_iff_append, roles_iff_append}
 use Rattle.expression_reader.proofs.Composing as expression
 use Rattle.cfj_model.specs.Marks.{in_order, each_behind, separated, spell_mark, spell_marks, roles_mark, roles_marks}
-use Rattle.cfj_model.specs.Roles.{Role, feature_name, class_name, field_name, method_name, param_name, method_param_name, sent_name, assigned_name, used_name, formula_node, formula_opens, plain, are_settled}
+use Rattle.cfj_model.specs.Roles.{Role, feature_name, class_name, field_name, method_name, param_name, method_param_name, sent_name, assigned_name, used_name, formula_node, formula_opens, other_token, are_settled}
 use Rattle.cfj_model.specs.TreeRoles.{roles_feature, roles_features, roles_field, roles_param, roles_method_param, roles_sent, roles_assign, roles_ctor, roles_method, roles_constraint, roles_class, roles}
 use Rattle.fj_parser.specs.Laws.{IsPlainLanguage}
 
@@ -121,13 +121,13 @@ spell_before x a b =
 
 feature_roles_before : (fs : List (List ℕ)) (a b : List Role) → roles_features fs (a ++ b) ≡ roles_features fs a ++ b
 feature_roles_before [] a b = refl
-feature_roles_before (f ∷ fs) a b = ap (λ rs. used_name features_word ∷ (feature_name f ∷ rs)) (each_behind_before plain roles_feature (λ w x y. refl) fs (plain ∷ a) b)
+feature_roles_before (f ∷ fs) a b = ap (λ rs. used_name features_word ∷ (feature_name f ∷ rs)) (each_behind_before other_token roles_feature (λ w x y. refl) fs (other_token ∷ a) b)
 
 pub mark_roles_before : (ms : List (List ℕ)) (a b : List Role) → roles_marks ms (a ++ b) ≡ roles_marks ms a ++ b
 mark_roles_before = in_order_before roles_mark (λ m a b. refl)
 
 pub field_roles_before : (d : Declared) (a b : List Role) → roles_field d (a ++ b) ≡ roles_field d a ++ b
-field_roles_before d a b = mark_roles_before d.marks (used_name d.of ∷ (field_name d.name ∷ (plain ∷ a))) b
+field_roles_before d a b = mark_roles_before d.marks (used_name d.of ∷ (field_name d.name ∷ (other_token ∷ a))) b
 
 param_roles_before : (d : Declared) (a b : List Role) → roles_param d (a ++ b) ≡ roles_param d a ++ b
 param_roles_before d a b = mark_roles_before d.marks (used_name d.of ∷ (param_name d.name ∷ a)) b
@@ -136,60 +136,60 @@ sent_roles_before : (s : Named) (a b : List Role) → roles_sent s (a ++ b) ≡ 
 sent_roles_before s a b = mark_roles_before s.marks (sent_name s.name ∷ a) b
 
 assign_roles_before : (s : Named) (a b : List Role) → roles_assign s (a ++ b) ≡ roles_assign s a ++ b
-assign_roles_before s a b = mark_roles_before s.marks (plain ∷ (plain ∷ (assigned_name s.name ∷ (plain ∷ (used_name s.name ∷ (plain ∷ a)))))) b
+assign_roles_before s a b = mark_roles_before s.marks (other_token ∷ (other_token ∷ (assigned_name s.name ∷ (other_token ∷ (used_name s.name ∷ (other_token ∷ a)))))) b
 
 abbrev body_roles : ClassTree → List Role → List Role
-body_roles k rest = plain ∷ (plain ∷ (plain ∷ separated plain roles_sent k.sends (plain ∷ (plain ∷ in_order roles_assign k.assigns (plain ∷ rest)))))
+body_roles k rest = other_token ∷ (other_token ∷ (other_token ∷ separated other_token roles_sent k.sends (other_token ∷ (other_token ∷ in_order roles_assign k.assigns (other_token ∷ rest)))))
 
 body_roles_before : (k : ClassTree) (a b : List Role) → body_roles k (a ++ b) ≡ body_roles k a ++ b
 body_roles_before k a b =
-    ap (λ rs. plain ∷ (plain ∷ (plain ∷ rs)))
-    (ap (λ rs. separated plain roles_sent k.sends (plain ∷ (plain ∷ rs))) (in_order_before roles_assign assign_roles_before k.assigns (plain ∷ a) b)
-    ∙ separated_before plain roles_sent sent_roles_before k.sends (plain ∷ (plain ∷ in_order roles_assign k.assigns (plain ∷ a))) b)
+    ap (λ rs. other_token ∷ (other_token ∷ (other_token ∷ rs)))
+    (ap (λ rs. separated other_token roles_sent k.sends (other_token ∷ (other_token ∷ rs))) (in_order_before roles_assign assign_roles_before k.assigns (other_token ∷ a) b)
+    ∙ separated_before other_token roles_sent sent_roles_before k.sends (other_token ∷ (other_token ∷ in_order roles_assign k.assigns (other_token ∷ a))) b)
 
 pub ctor_roles_before : (k : ClassTree) (a b : List Role) → roles_ctor k (a ++ b) ≡ roles_ctor k a ++ b
 ctor_roles_before k a b =
-    ap (λ rs. used_name k.name ∷ (plain ∷ rs))
-    (ap (λ rs. separated plain roles_param k.params (plain ∷ rs)) (body_roles_before k a b)
-    ∙ separated_before plain roles_param param_roles_before k.params (plain ∷ body_roles k a) b)
+    ap (λ rs. used_name k.name ∷ (other_token ∷ rs))
+    (ap (λ rs. separated other_token roles_param k.params (other_token ∷ rs)) (body_roles_before k a b)
+    ∙ separated_before other_token roles_param param_roles_before k.params (other_token ∷ body_roles k a) b)
 
 method_param_roles_before : (d : Declared) (a b : List Role) → roles_method_param d (a ++ b) ≡ roles_method_param d a ++ b
 method_param_roles_before d a b = mark_roles_before d.marks (used_name d.of ∷ (method_param_name d.name ∷ a)) b
 
 abbrev pub returned_roles : MethodTree → List Role → List Role
-returned_roles m rest = plain ∷ (plain ∷ roles_expr 0 m.body (plain ∷ (plain ∷ rest)))
+returned_roles m rest = other_token ∷ (other_token ∷ roles_expr 0 m.body (other_token ∷ (other_token ∷ rest)))
 
 abbrev method_word_roles : MethodTree → List Role → List Role
-method_word_roles m rest = used_name m.result ∷ (method_name m.name ∷ (plain ∷ separated plain roles_method_param m.params (plain ∷ returned_roles m rest)))
+method_word_roles m rest = used_name m.result ∷ (method_name m.name ∷ (other_token ∷ separated other_token roles_method_param m.params (other_token ∷ returned_roles m rest)))
 
 returned_roles_before : (m : MethodTree) (a b : List Role) → returned_roles m (a ++ b) ≡ returned_roles m a ++ b
-returned_roles_before m a b = ap (λ rs. plain ∷ (plain ∷ rs)) (sym (expression.roles_before 0 m.body (plain ∷ (plain ∷ a)) b))
+returned_roles_before m a b = ap (λ rs. other_token ∷ (other_token ∷ rs)) (sym (expression.roles_before 0 m.body (other_token ∷ (other_token ∷ a)) b))
 
-pub method_rest_roles_before : (m : MethodTree) (a b : List Role) → separated plain roles_method_param m.params (plain ∷ returned_roles m (a ++ b)) ≡ separated plain roles_method_param m.params (plain ∷ returned_roles m a) ++ b
-method_rest_roles_before m a b = ap (λ rs. separated plain roles_method_param m.params (plain ∷ rs)) (returned_roles_before m a b) ∙ separated_before plain roles_method_param method_param_roles_before m.params (plain ∷ returned_roles m a) b
+pub method_rest_roles_before : (m : MethodTree) (a b : List Role) → separated other_token roles_method_param m.params (other_token ∷ returned_roles m (a ++ b)) ≡ separated other_token roles_method_param m.params (other_token ∷ returned_roles m a) ++ b
+method_rest_roles_before m a b = ap (λ rs. separated other_token roles_method_param m.params (other_token ∷ rs)) (returned_roles_before m a b) ∙ separated_before other_token roles_method_param method_param_roles_before m.params (other_token ∷ returned_roles m a) b
 
 pub method_roles_before : (m : MethodTree) (a b : List Role) → roles_method m (a ++ b) ≡ roles_method m a ++ b
 method_roles_before m a b =
-    ap (λ rs. roles_marks m.marks (used_name m.result ∷ (method_name m.name ∷ (plain ∷ rs)))) (method_rest_roles_before m a b)
+    ap (λ rs. roles_marks m.marks (used_name m.result ∷ (method_name m.name ∷ (other_token ∷ rs)))) (method_rest_roles_before m a b)
     ∙ mark_roles_before m.marks (method_word_roles m a) b
 
 abbrev member_roles : ClassTree → List Role → List Role
-member_roles k rest = in_order roles_field k.fields (roles_ctor k (in_order roles_method k.methods (plain ∷ rest)))
+member_roles k rest = in_order roles_field k.fields (roles_ctor k (in_order roles_method k.methods (other_token ∷ rest)))
 
 member_roles_before : (k : ClassTree) (a b : List Role) → member_roles k (a ++ b) ≡ member_roles k a ++ b
 member_roles_before k a b =
-    ap (λ rs. in_order roles_field k.fields (roles_ctor k rs)) (in_order_before roles_method method_roles_before k.methods (plain ∷ a) b)
-    ∙ ap (in_order roles_field k.fields) (ctor_roles_before k (in_order roles_method k.methods (plain ∷ a)) b)
-    ∙ in_order_before roles_field field_roles_before k.fields (roles_ctor k (in_order roles_method k.methods (plain ∷ a))) b
+    ap (λ rs. in_order roles_field k.fields (roles_ctor k rs)) (in_order_before roles_method method_roles_before k.methods (other_token ∷ a) b)
+    ∙ ap (in_order roles_field k.fields) (ctor_roles_before k (in_order roles_method k.methods (other_token ∷ a)) b)
+    ∙ in_order_before roles_field field_roles_before k.fields (roles_ctor k (in_order roles_method k.methods (other_token ∷ a))) b
 
 abbrev head_roles : ClassTree → List Role → List Role
-head_roles k rest = plain ∷ (class_name k.name ∷ (plain ∷ (used_name k.parent ∷ (plain ∷ rest))))
+head_roles k rest = other_token ∷ (class_name k.name ∷ (other_token ∷ (used_name k.parent ∷ (other_token ∷ rest))))
 
 class_roles_before : (k : ClassTree) (a b : List Role) → roles_class k (a ++ b) ≡ roles_class k a ++ b
 class_roles_before k a b = ap (λ rs. roles_marks k.marks (head_roles k rs)) (member_roles_before k a b) ∙ mark_roles_before k.marks (head_roles k (member_roles k a)) b
 
 constraint_roles_before : (x : IffTree) (a b : List Role) → roles_constraint x (a ++ b) ≡ roles_constraint x a ++ b
-constraint_roles_before x a b = ap (λ rs. used_name constraint_word ∷ rs) (sym (roles_iff_append 0 x (plain ∷ a) b))
+constraint_roles_before x a b = ap (λ rs. used_name constraint_word ∷ rs) (sym (roles_iff_append 0 x (other_token ∷ a) b))
 
 -- What follows a tree's roles stands behind them.
 roles_before : (x : Tree) (a b : List Role) → roles x (a ++ b) ≡ roles x a ++ b
@@ -209,23 +209,23 @@ in_order_settled : {A : Type 0} (f : A → List Role → List Role) → AreSettl
 in_order_settled f h [] rest e = e
 in_order_settled f h (x ∷ xs) rest e = h x (in_order f xs rest) (in_order_settled f h xs rest e)
 
-each_behind_settled : {A : Type 0} (f : A → List Role → List Role) → AreSettled f → (xs : List A) (rest : List Role) → are_settled rest ≡ true → are_settled (each_behind plain f xs rest) ≡ true
+each_behind_settled : {A : Type 0} (f : A → List Role → List Role) → AreSettled f → (xs : List A) (rest : List Role) → are_settled rest ≡ true → are_settled (each_behind other_token f xs rest) ≡ true
 each_behind_settled f h [] rest e = e
-each_behind_settled f h (x ∷ xs) rest e = h x (each_behind plain f xs rest) (each_behind_settled f h xs rest e)
+each_behind_settled f h (x ∷ xs) rest e = h x (each_behind other_token f xs rest) (each_behind_settled f h xs rest e)
 
-separated_settled : {A : Type 0} (f : A → List Role → List Role) → AreSettled f → (xs : List A) (rest : List Role) → are_settled rest ≡ true → are_settled (separated plain f xs rest) ≡ true
+separated_settled : {A : Type 0} (f : A → List Role → List Role) → AreSettled f → (xs : List A) (rest : List Role) → are_settled rest ≡ true → are_settled (separated other_token f xs rest) ≡ true
 separated_settled f h [] rest e = e
-separated_settled f h (x ∷ xs) rest e = h x (each_behind plain f xs rest) (each_behind_settled f h xs rest e)
+separated_settled f h (x ∷ xs) rest e = h x (each_behind other_token f xs rest) (each_behind_settled f h xs rest e)
 
 features_settled : (fs : List (List ℕ)) (rest : List Role) → are_settled rest ≡ true → are_settled (roles_features fs rest) ≡ true
 features_settled [] rest e = e
-features_settled (f ∷ fs) rest e = each_behind_settled roles_feature (λ w rs r. r) fs (plain ∷ rest) e
+features_settled (f ∷ fs) rest e = each_behind_settled roles_feature (λ w rs r. r) fs (other_token ∷ rest) e
 
 pub marks_settled : (ms : List (List ℕ)) (rest : List Role) → are_settled rest ≡ true → are_settled (roles_marks ms rest) ≡ true
 marks_settled = in_order_settled roles_mark (λ m rs r. r)
 
 pub field_settled : (d : Declared) (rest : List Role) → are_settled rest ≡ true → are_settled (roles_field d rest) ≡ true
-field_settled d rest e = marks_settled d.marks (used_name d.of ∷ (field_name d.name ∷ (plain ∷ rest))) e
+field_settled d rest e = marks_settled d.marks (used_name d.of ∷ (field_name d.name ∷ (other_token ∷ rest))) e
 
 param_settled : (d : Declared) (rest : List Role) → are_settled rest ≡ true → are_settled (roles_param d rest) ≡ true
 param_settled d rest e = marks_settled d.marks (used_name d.of ∷ (param_name d.name ∷ rest)) e
@@ -237,24 +237,24 @@ sent_settled : (s : Named) (rest : List Role) → are_settled rest ≡ true → 
 sent_settled s rest e = marks_settled s.marks (sent_name s.name ∷ rest) e
 
 assign_settled : (s : Named) (rest : List Role) → are_settled rest ≡ true → are_settled (roles_assign s rest) ≡ true
-assign_settled s rest e = marks_settled s.marks (plain ∷ (plain ∷ (assigned_name s.name ∷ (plain ∷ (used_name s.name ∷ (plain ∷ rest)))))) e
+assign_settled s rest e = marks_settled s.marks (other_token ∷ (other_token ∷ (assigned_name s.name ∷ (other_token ∷ (used_name s.name ∷ (other_token ∷ rest)))))) e
 
 pub ctor_settled : (k : ClassTree) (rest : List Role) → are_settled rest ≡ true → are_settled (roles_ctor k rest) ≡ true
 ctor_settled k rest e =
-    separated_settled roles_param param_settled k.params (plain ∷ body_roles k rest)
-    (separated_settled roles_sent sent_settled k.sends (plain ∷ (plain ∷ in_order roles_assign k.assigns (plain ∷ rest)))
-    (in_order_settled roles_assign assign_settled k.assigns (plain ∷ rest) e))
+    separated_settled roles_param param_settled k.params (other_token ∷ body_roles k rest)
+    (separated_settled roles_sent sent_settled k.sends (other_token ∷ (other_token ∷ in_order roles_assign k.assigns (other_token ∷ rest)))
+    (in_order_settled roles_assign assign_settled k.assigns (other_token ∷ rest) e))
 
 pub method_settled : (m : MethodTree) (rest : List Role) → are_settled rest ≡ true → are_settled (roles_method m rest) ≡ true
 method_settled m rest e =
     marks_settled m.marks (method_word_roles m rest)
-    (separated_settled roles_method_param method_param_settled m.params (plain ∷ returned_roles m rest) (expression.roles_settled 0 m.body (plain ∷ (plain ∷ rest)) e))
+    (separated_settled roles_method_param method_param_settled m.params (other_token ∷ returned_roles m rest) (expression.roles_settled 0 m.body (other_token ∷ (other_token ∷ rest)) e))
 
 class_settled : (k : ClassTree) (rest : List Role) → are_settled rest ≡ true → are_settled (roles_class k rest) ≡ true
 class_settled k rest e =
     marks_settled k.marks (head_roles k (member_roles k rest))
-    (in_order_settled roles_field field_settled k.fields (roles_ctor k (in_order roles_method k.methods (plain ∷ rest)))
-    (ctor_settled k (in_order roles_method k.methods (plain ∷ rest)) (in_order_settled roles_method method_settled k.methods (plain ∷ rest) e)))
+    (in_order_settled roles_field field_settled k.fields (roles_ctor k (in_order roles_method k.methods (other_token ∷ rest)))
+    (ctor_settled k (in_order roles_method k.methods (other_token ∷ rest)) (in_order_settled roles_method method_settled k.methods (other_token ∷ rest) e)))
 
 -- A formula has no cast.
 mutual
@@ -279,10 +279,10 @@ mutual
   unary_settled d (named w) rest = refl
   unary_settled d true_word rest = refl
   unary_settled d false_word rest = refl
-  unary_settled d (bracketed x) rest = iff_settled (d + 1) x (plain ∷ rest)
+  unary_settled d (bracketed x) rest = iff_settled (d + 1) x (other_token ∷ rest)
 
 constraint_settled : (x : IffTree) (rest : List Role) → are_settled rest ≡ true → are_settled (roles_constraint x rest) ≡ true
-constraint_settled x rest e = iff_settled 0 x (plain ∷ rest) ∙ e
+constraint_settled x rest e = iff_settled 0 x (other_token ∷ rest) ∙ e
 
 -- A tree's roles are settled.
 roles_settled : (x : Tree) → are_settled (roles x []) ≡ true

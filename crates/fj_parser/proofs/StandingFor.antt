@@ -2,7 +2,7 @@
 use Rattle.std.proofs.Common.{List, ap}
 use Rattle.cfj_model.specs.Faults.{Language}
 use Rattle.cfj_model.specs.Roles.{Role}
-use Rattle.cfj_model.specs.Tokens.{Token}
+use Rattle.cfj_words.specs.Tokens.{Token}
 use Rattle.fj_parser.specs.Laws.{Closes, Reads}
 use Rattle.fj_parser.specs.Readers.{Reader}
 use Rattle.fj_parser.specs.Wanted.{standing_for}

@@ -4,10 +4,10 @@ use Rattle.std.specs.List.{list_all}
 use Rattle.std.specs.Str.{all_scalars}
 use Rattle.std.proofs.lemmas.Bool.{cond_both, and_parts, and_from}
 use Rattle.std.proofs.lemmas.Str.{scalars-chars}
-use Rattle.cfj_model.proofs.Identifiers.{word_is_identifier}
-use Rattle.cfj_model.specs.Names.{starts_word, continues_word, is_word, is_reserved}
-use Rattle.cfj_model.specs.Lexemes.{is_blank, is_line_end, Between, blanks, slash, line, block, star, Skipped, Reached, Unclosed, skipped, word_run, word_rest, Lexeme, Lexed, Found, AtEnd, NoToken, NoClose, is_single_mark, after_dash, after_less_dash, after_less, lexeme_at, after_blanks, next_lexeme}
-use Rattle.cfj_model.specs.Tokens.{Token, word_token, mark_token, token_of, Takes}
+use Rattle.cfj_words.proofs.Identifiers.{word_is_identifier}
+use Rattle.cfj_words.specs.Names.{starts_word, continues_word, is_word, is_reserved}
+use Rattle.cfj_words.specs.Lexemes.{is_blank, is_line_end, Between, blanks, slash, line, block, star, Skipped, Reached, Unclosed, skipped, word_run, word_rest, Lexeme, Lexed, Found, AtEnd, NoToken, NoClose, is_single_mark, after_dash, after_less_dash, after_less, lexeme_at, after_blanks, next_lexeme}
+use Rattle.cfj_words.specs.Tokens.{Token, word_token, mark_token, token_of, Takes}
 use Rattle.fj_symbols.specs.Views.{is_read, are_read}
 use Rattle.fj_lexer.specs.Kinds.{characters_of}
 use Rattle.fj_lexer.proofs.Parts.{IsWhole, whole}

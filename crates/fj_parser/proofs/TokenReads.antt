@@ -3,9 +3,9 @@ use Rattle.std.proofs.Common.{◌≡◌, ℕ, true, List, [], length, Some, Resu
 use Rattle.std.proofs.Math.Nat.{sub-zero}
 use Rattle.std.specs.Str.{chars, IsUtf8}
 use Rattle.cfj_model.specs.declared.fault.FaultKind.{FaultKind}
-use Rattle.cfj_model.specs.Lexemes.{Lexeme, Found, AtEnd, next_lexeme}
+use Rattle.cfj_words.specs.Lexemes.{Lexeme, Found, AtEnd, next_lexeme}
 use Rattle.cfj_model.specs.Roles.{Role, Tally, AreWithin}
-use Rattle.cfj_model.specs.Tokens.{Token, End, token_of, token_seen, place_of}
+use Rattle.cfj_words.specs.Tokens.{Token, End, token_of, token_seen, place_of}
 use Rattle.fj_lexer.specs.Kinds.{kind_of}
 use Rattle.fj_lexer.specs.Lexing.{Gives}
 use Rattle.fj_lexer.specs.declared.lexer.Lexer.{Lexer}

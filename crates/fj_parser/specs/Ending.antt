@@ -3,9 +3,9 @@ use Rattle.std.specs.Prelude.{◌≡◌, ℕ, List, Some}
 use Rattle.std.specs.Str.{chars}
 use Rattle.cfj_model.specs.declared.fault.FaultKind.{FaultKind}
 use Rattle.cfj_model.specs.Faults.{lexical_fault}
-use Rattle.cfj_model.specs.Lexemes.{AtEnd, next_lexeme}
+use Rattle.cfj_words.specs.Lexemes.{AtEnd, next_lexeme}
 use Rattle.cfj_model.specs.Roles.{Tally}
-use Rattle.cfj_model.specs.Tokens.{Token, End, token_seen, place_of}
+use Rattle.cfj_words.specs.Tokens.{Token, End, token_seen, place_of}
 use Rattle.fj_lexer.specs.declared.token.LexFault.{LexFault}
 use Rattle.fj_parser.specs.Accepting.{IsAccepted, IsToldAt, IsTold}
 use Rattle.fj_parser.specs.Readers.{Reader}

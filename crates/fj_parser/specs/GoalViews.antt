@@ -1,6 +1,6 @@
 -- How the machine goes on for a goal.
 use Rattle.std.specs.Prelude.{◌≡◌, ℕ, Bool, true, false, List, Some, None}
-use Rattle.cfj_model.specs.Tokens.{Token, Semicolon, End}
+use Rattle.cfj_words.specs.Tokens.{Token, Semicolon, End}
 use Rattle.cfj_model.specs.Roles.{Tally}
 use Rattle.fj_parser.specs.Goals.{step_for, with_single_field, reader_for}
 use Rattle.fj_parser.specs.Languages.{with_features}

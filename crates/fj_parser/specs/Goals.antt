@@ -4,7 +4,7 @@ use Rattle.std.specs.Str.{bytes_eq}
 use Rattle.cfj_model.specs.declared.class.Class.{Class}
 use Rattle.cfj_model.specs.declared.class.Field.{Field}
 use Rattle.cfj_model.specs.declared.class.Method.{Method}
-use Rattle.cfj_model.specs.Tokens.{Token, Id, ClassWord, OpenParen, Semicolon, At, End}
+use Rattle.cfj_words.specs.Tokens.{Token, Id, ClassWord, OpenParen, Semicolon, At, End}
 use Rattle.fj_parser.specs.Readers.{Reader}
 use Rattle.fj_parser.specs.Machine.{State, behind, start, step_in, emitted, pending, takes_name_in, to, unnamed}
 use Rattle.fj_parser.specs.declared.goal.Goal.{Goal}

@@ -12,8 +12,8 @@ use Rattle.cfj_model.specs.FormulaGrammar.{IffTree}
 use Rattle.cfj_model.specs.Faults.{Language}
 use Rattle.cfj_model.specs.Grammar.{Declared, Named, MethodTree, ClassTree, Tree, spell, spell_ctor, spell_field, spell_method, spell_name, value, value_ctor, value_field, value_method}
 use Rattle.cfj_model.specs.Marks.{roles_marks}
-use Rattle.cfj_model.specs.Roles.{Role, Tally, method_name, nothing, plain, used_name}
-use Rattle.cfj_model.specs.Tokens.{Token}
+use Rattle.cfj_model.specs.Roles.{Role, Tally, method_name, nothing, other_token, used_name}
+use Rattle.cfj_words.specs.Tokens.{Token}
 use Rattle.cfj_model.specs.TreeRoles.{roles, roles_ctor, roles_field, roles_method}
 
 -- these features were met, and nothing else
@@ -79,7 +79,7 @@ spell_member (a_method m) = spell_method m
 -- Of a member by itself only the next token tells which it is. Where no other was met, a field's name breaks what a method's
 -- breaks, so that its role may be the same.
 abbrev pub roles_member : MemberTree → List Role → List Role
-roles_member (a_field d) rest = roles_marks d.marks (used_name d.of ∷ (method_name d.name ∷ (plain ∷ rest)))
+roles_member (a_field d) rest = roles_marks d.marks (used_name d.of ∷ method_name d.name ∷ other_token ∷ rest)
 roles_member (a_method m) rest = roles_method m rest
 
 abbrev pub value_member : List (List ℕ) → MemberTree → Member

@@ -1,9 +1,9 @@
 -- What is known of a reader of a language.
 use Rattle.std.specs.Prelude.{◌≡◌, ℕ, suc, ◌+◌, ◌≤◌, true, false, List, [], ◌∷◌, ◌++◌, length, Some, None}
 use Rattle.cfj_model.specs.Faults.{Language}
-use Rattle.cfj_model.specs.Names.{is_identifier}
-use Rattle.cfj_model.specs.Tokens.{Token, Id, End}
-use Rattle.cfj_model.specs.Roles.{Role, casts, plain, are_settled}
+use Rattle.cfj_words.specs.Names.{is_identifier}
+use Rattle.cfj_words.specs.Tokens.{Token, Id, End}
+use Rattle.cfj_model.specs.Roles.{Role, casts, other_token, are_settled}
 use Rattle.fj_symbols.specs.Views.{are_read}
 use Rattle.fj_parser.specs.Readers.{Reader, run_of}
 
@@ -18,7 +18,7 @@ pub record Closes {V : Type 0} (l : Language V) (front : List Token) (rs waiting
   pub more : List Token
   pub others : List Role
   pub text : front ++ more ≡ l.spell tree (End ∷ [])
-  pub in_roles : l.roles tree (plain ∷ []) ≡ rs ++ (waiting ++ others)
+  pub in_roles : l.roles tree (other_token ∷ []) ≡ rs ++ (waiting ++ others)
 
 -- an identifier with which the reader goes on
 pub record GoesByName (m : Reader) (s : m.State) : Type 0 where
@@ -39,7 +39,7 @@ pub record Reads {V : Type 0} (l : Language V) (m : Reader) : Type 0 where
   pub ended : l.Tree → m.State
   pub stands_for : m.State → V
   pub valued : (x : l.Tree) → stands_for (ended x) ≡ l.value x
-  pub complete : (x : l.Tree) → run_of m (l.spell x (End ∷ [])) m.start ≡ (Some (ended x), l.roles x (plain ∷ []))
+  pub complete : (x : l.Tree) → run_of m (l.spell x (End ∷ [])) m.start ≡ (Some (ended x), l.roles x (other_token ∷ []))
   pub sound : (ts : List Token) (s n : m.State) (rs : List Role) → run_of m ts m.start ≡ (Some s, rs) → m.step s End ≡ Some n → (x : l.Tree) × (ts ≡ l.spell x [])
   pub closes : (ts : List Token) (s : m.State) (rs : List Role) → run_of m ts m.start ≡ (Some s, rs) → Closes l ts rs (m.pending s)
   pub first : m.pending m.start ≡ []

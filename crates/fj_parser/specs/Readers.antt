@@ -2,7 +2,7 @@
 use Rattle.std.specs.Prelude.{◌≡◌, suc, ◌+◌, length, ◌&&◌, if◌then◌else◌, Bool, List, [], ◌∷◌, ◌++◌, Option, Some, None}
 use Rattle.cfj_model.specs.declared.fault.FaultKind.{FaultKind}
 use Rattle.cfj_model.specs.declared.fault.FaultKind.TheVariants as fault
-use Rattle.cfj_model.specs.Tokens.{Token, is_reserved_word}
+use Rattle.cfj_words.specs.Tokens.{Token, is_reserved_word}
 use Rattle.cfj_model.specs.Roles.{Role}
 
 -- The next state, or none where the token can't go on; the roles that a token settles, of those that wait and then its own; the

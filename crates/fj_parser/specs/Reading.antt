@@ -4,8 +4,8 @@ use Rattle.std.specs.Str.{chars}
 use Rattle.cfj_model.specs.Faults.{StandsBehind}
 use Rattle.cfj_model.specs.ProductLines.{ProductLine}
 use Rattle.cfj_model.specs.Roles.{Role, Tally, tallied, AreWithin}
-use Rattle.cfj_model.specs.Tokens.{Token, Takes, place_of}
-use Rattle.cfj_model.specs.declared.formula.Formula.{Formula}
+use Rattle.cfj_words.specs.Tokens.{Token, Takes, place_of}
+use Rattle.cfj_logic.specs.declared.formula.Formula.{Formula}
 use Rattle.cfj_model.specs.declared.class.Class.{Class}
 use Rattle.cfj_model.specs.declared.fault.FaultKind.{FaultKind}
 use Rattle.cfj_model.specs.declared.fault.FaultKind.TheVariants as fault

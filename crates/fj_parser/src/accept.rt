@@ -1,5 +1,7 @@
+//! Takes one token in: what waits is settled, its fault is found, and the machine goes on.
+
 ghost use Rattle.std.specs.Prelude.{◌≡◌, ◌&&◌, if◌then◌else◌, [], ◌∷◌, true, false, None, IfOk, is_some};
-ghost use Rattle.cfj_model.specs.Tokens.{is_reserved_word};
+ghost use Rattle.cfj_words.specs.Tokens.{is_reserved_word};
 ghost use Rattle.expression_reader.specs.Machine.{settled};
 ghost use Rattle.fj_parser.specs.Accepting.{AreCounted, Outcome, OwnOutcome};
 ghost use Rattle.fj_parser.specs.Machine.{pending, role, waits};

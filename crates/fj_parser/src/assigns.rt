@@ -1,6 +1,8 @@
+//! The assignments of a constructor.
+
 ghost use Rattle.std.specs.Prelude.{◌≡◌, ◌^◌, ◌<◌, true, IfOk, OnOk, length};
-ghost use Rattle.cfj_model.specs.Names.{is_name};
-ghost use Rattle.cfj_model.specs.Tokens.{Id};
+ghost use Rattle.cfj_words.specs.Names.{is_name};
+ghost use Rattle.cfj_words.specs.Tokens.{Id};
 ghost use Rattle.fj_parser.specs.Machine as spec;
 ghost use Rattle.fj_parser.specs.MachineViews.{machine_seen, GoesIn};
 ghost use Rattle.fj_symbols.specs.Views.{symbol_seen, is_name_token};
@@ -12,7 +14,6 @@ use fj_symbols::{Symbol, name_of};
 use std::alloc::{AllocError, Global};
 use std::mem;
 
-/// The assignments of a constructor.
 impl<'a> Machine<'a> {
     pub(crate) fn in_assigns(&mut self, alloc: Global, symbol: Symbol<'a>) -> bool
         ensures { GoesIn Mode.InAssigns result (machine_seen self.old) (symbol_seen symbol.entry) (machine_seen self.new) }

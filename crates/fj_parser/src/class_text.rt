@@ -1,3 +1,5 @@
+//! The text of a class.
+
 ghost use Rattle.std.specs.Prelude.{◌≡◌, ℕ, true, nat_le, length, IfOk, Err};
 ghost use Rattle.cfj_model.specs.declared.class.Class.{Class};
 ghost use Rattle.cfj_model.specs.Faults.{single_classes, IsFirstFault, IsTextOf};
@@ -8,6 +10,7 @@ use crate::goal::Goal;
 use crate::only::only;
 use crate::part::Part;
 use crate::reading::read_text;
+use crate::results::into_classes;
 use cfj_model::{Class, FaultKind, FeatureModel, ParseFault};
 use std::alloc::Global;
 
@@ -22,7 +25,7 @@ fn read_class<'a>(
     ensures fault { (at : ℕ) (kind : _) → result ≡ Err (ParseFault.At at kind) → IsFirstFault (single_classes model.entry.now.features) text.entry.now at kind }
 {
     let machine = read_text(alloc, Part::under(Goal::Class, model), text)?;
-    Ok(only(machine.classes))
+    Ok(only(into_classes(alloc, machine)))
 }
 
 /// The class that a text stands for, or the text's first fault; marks name features of the model.

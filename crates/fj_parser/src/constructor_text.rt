@@ -1,13 +1,16 @@
+//! The text of a constructor.
+
 ghost use Rattle.std.specs.Prelude.{◌≡◌, ℕ, true, nat_le, length, IfOk, Err};
 ghost use Rattle.cfj_model.specs.declared.class.Constructor.{Constructor};
 ghost use Rattle.cfj_model.specs.Faults.{IsFirstFault, IsTextOf};
-ghost use Rattle.cfj_model.specs.Names.{is_identifier};
+ghost use Rattle.cfj_words.specs.Names.{is_identifier};
 ghost use Rattle.cfj_model.specs.ProductLines.{are_distinct, most_features};
 ghost use Rattle.fj_parser.specs.Answers.{IsReadAs, IsRefusedAs};
 ghost use Rattle.fj_parser.specs.Languages.{constructors};
 
 use crate::part::Part;
 use crate::reading::read_text;
+use crate::results::into_ctor;
 use cfj_model::{Constructor, FaultKind, FeatureModel, Name, ParseFault};
 use std::alloc::Global;
 
@@ -24,7 +27,7 @@ fn read_constructor<'a>(
     ensures fault { (at : ℕ) (kind : _) → result ≡ Err (ParseFault.At at kind) → IsFirstFault (constructors model.entry.now.features class.entry.now) text.entry.now at kind }
 {
     let machine = read_text(alloc, Part::constructor(model, class), text)?;
-    Ok(machine.ctor)
+    Ok(into_ctor(alloc, machine))
 }
 
 /// The constructor that a text stands for in the class of this name, or the text's first fault; marks name features of the model.

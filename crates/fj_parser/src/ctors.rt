@@ -1,5 +1,7 @@
+//! What a constructor sends.
+
 ghost use Rattle.std.specs.Prelude.{◌≡◌, ◌^◌, ◌<◌, true, IfOk, OnOk, length};
-ghost use Rattle.cfj_model.specs.Names.{is_name};
+ghost use Rattle.cfj_words.specs.Names.{is_name};
 ghost use Rattle.fj_parser.specs.Machine as spec;
 ghost use Rattle.fj_parser.specs.MachineViews.{machine_seen, GoesIn};
 ghost use Rattle.fj_symbols.specs.Views.{symbol_seen, is_name_token};
@@ -10,7 +12,6 @@ use cfj_model::{Colors, Sent};
 use fj_symbols::{Symbol, name_of};
 use std::alloc::{AllocError, Global};
 
-/// What a constructor sends.
 impl<'a> Machine<'a> {
     pub(crate) fn in_body(&mut self, symbol: Symbol<'a>) -> bool
         ensures { GoesIn Mode.InBody result (machine_seen self.old) (symbol_seen symbol.entry) (machine_seen self.new) }

@@ -1,3 +1,5 @@
+//! The text of an expression.
+
 ghost use Rattle.std.specs.Prelude.{◌≡◌, ℕ, IfOk, Err};
 ghost use Rattle.cfj_model.specs.declared.expr.Expr.{Expr};
 ghost use Rattle.cfj_model.specs.Faults.{IsFirstFault, IsTextOf};
@@ -8,6 +10,7 @@ use crate::goal::Goal;
 use crate::only::only;
 use crate::part::Part;
 use crate::reading::read_text;
+use crate::results::into_members;
 use cfj_model::{Expr, FaultKind, ParseFault};
 use std::alloc::Global;
 
@@ -16,7 +19,7 @@ fn read_expr<'a>(alloc: Global, text: &'a str) -> Result<Expr, ParseFault>
     ensures fault { (at : ℕ) (kind : _) → result ≡ Err (ParseFault.At at kind) → IsFirstFault expressions text.entry.now at kind }
 {
     let machine = read_text(alloc, Part::alone(Goal::Expression), text)?;
-    Ok(only(machine.methods).body)
+    Ok(only(into_members(alloc, machine).1).body)
 }
 
 /// The expression without marks that a text stands for, or the text's first fault.

@@ -1,5 +1,7 @@
+//! What is to be read: a project, or a part of one.
+
 ghost use Rattle.std.specs.Prelude.{◌≡◌, true, IfOk, is_some};
-ghost use Rattle.cfj_model.specs.Tokens.{Id};
+ghost use Rattle.cfj_words.specs.Tokens.{Id};
 ghost use Rattle.fj_parser.specs.Goals.{step_for, takes_name_for};
 ghost use Rattle.fj_parser.specs.GoalViews.{Does, GoesFor};
 ghost use Rattle.fj_parser.specs.MachineViews.{machine_seen, names_fit_in, IsRoomy};
@@ -12,7 +14,7 @@ use fj_symbols::Symbol;
 use std::alloc::{AllocError, Global};
 
 /// What is to be read.
-#[derive(Clone, Copy, Debug, PartialEq, Eq)]
+#[derive(Clone, Copy)]
 pub enum Goal {
     /// A whole project.
     Project,
@@ -65,10 +67,10 @@ impl Goal {
         requires room { IsRoomy (machine_seen machine.old) }
         ensures { IfOk result (λ goes. GoesFor self goes (machine_seen machine.old) (symbol_seen symbol.entry) (machine_seen machine.new)) }
     {
-        if self == Goal::Project {
-            return machine.step(alloc, symbol);
+        match self {
+            Goal::Project => machine.step(alloc, symbol),
+            _ => self.step_alone(alloc, machine, symbol),
         }
-        self.step_alone(alloc, machine, symbol)
     }
 
     #[inline(never)]

@@ -1,7 +1,9 @@
+//! The feature line, marks, and the head of a class.
+
 ghost use Rattle.std.specs.Prelude.{◌≡◌, ◌≤◌, true, IfOk, OnOk, bit_or, length};
 ghost use Rattle.cfj_model.specs.Marks.{color_of};
-ghost use Rattle.cfj_model.specs.Names.{is_name};
-ghost use Rattle.cfj_model.specs.Tokens.{Id};
+ghost use Rattle.cfj_words.specs.Names.{is_name};
+ghost use Rattle.cfj_words.specs.Tokens.{Id};
 ghost use Rattle.formula_reader.specs.Machine as formula;
 ghost use Rattle.fj_parser.specs.Machine as spec;
 ghost use Rattle.fj_parser.specs.MachineViews.{machine_seen, GoesIn};
@@ -32,7 +34,6 @@ fn marked(colors: Colors, features: &Features<'_>, name: &str) -> Colors
     }
 }
 
-/// The feature line, marks, and the head of a class.
 impl<'a> Machine<'a> {
     pub(crate) fn begin(&mut self, symbol: Symbol<'a>) -> bool
         ensures { GoesIn Mode.Begin result (machine_seen self.old) (symbol_seen symbol.entry) (machine_seen self.new) }

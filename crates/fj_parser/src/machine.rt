@@ -1,6 +1,8 @@
+//! The machine that reads one token at a time.
+
 ghost use Rattle.std.specs.Prelude.{◌≡◌, ◌^◌, ◌<◌, true, IfOk, is_some, [], length};
-ghost use Rattle.cfj_model.specs.Names.{is_name};
-ghost use Rattle.cfj_model.specs.Tokens.{Id};
+ghost use Rattle.cfj_words.specs.Names.{is_name};
+ghost use Rattle.cfj_words.specs.Tokens.{Id};
 ghost use Rattle.fj_parser.specs.Machine as spec;
 
 use crate::heads::{CONSTRAINT_WORD, FEATURES_WORD};
@@ -13,6 +15,7 @@ use expression_reader::{ExpressionReader, Settling};
 use fj_symbols::{Features, Role, Symbol};
 use formula_reader::FormulaReader;
 use std::alloc::{AllocError, Global};
+use std::mem;
 
 /// What stands for a name that isn't in hand.
 pub(crate) const NO_NAME: &str = "this";
@@ -110,14 +113,46 @@ impl<'a> Machine<'a> {
     }
 
     /// The features, constraints and classes that are read.
-    pub fn into_parts(self) -> (FeatureModel, Vec<Class>)
-        ensures { of_parts result.0.features result.0.constraints result.1.items ≡ spec.stands_for (machine_seen self.entry) }
+    pub fn take_parts(&mut self, alloc: Global) -> (FeatureModel, Vec<Class>)
+        ensures { of_parts result.0.features result.0.constraints result.1.items ≡ spec.stands_for (machine_seen self.old) }
     {
+        let features = mem::replace(&mut self.features, Features::new(alloc));
+        let constraints = mem::replace(&mut self.constraints, Vec::new(alloc));
         let model = FeatureModel {
-            features: Items::of(self.features.into_names()),
-            constraints: Items::of(self.constraints),
+            features: Items::of(features.into_names()),
+            constraints: Items::of(constraints),
         };
-        (model, self.classes)
+        (model, self.take_classes(alloc))
+    }
+
+    /// The classes that are read.
+    pub fn take_classes(&mut self, alloc: Global) -> Vec<Class>
+        ensures { result ≡ self.old.classes }
+    {
+        mem::replace(&mut self.classes, Vec::new(alloc))
+    }
+
+    /// The methods that are read.
+    pub fn take_methods(&mut self, alloc: Global) -> Vec<Method>
+        ensures { result ≡ self.old.methods }
+    {
+        mem::replace(&mut self.methods, Vec::new(alloc))
+    }
+
+    /// The fields and the methods that are read.
+    pub fn take_members(&mut self, alloc: Global) -> (Vec<Field>, Vec<Method>)
+        ensures fields { result.0 ≡ self.old.fields }
+        ensures methods { result.1 ≡ self.old.methods }
+    {
+        let fields = mem::replace(&mut self.fields, Vec::new(alloc));
+        (fields, self.take_methods(alloc))
+    }
+
+    /// The constructor that is read.
+    pub fn take_ctor(&mut self, alloc: Global) -> Constructor
+        ensures { result ≡ self.old.ctor }
+    {
+        mem::replace(&mut self.ctor, no_ctor(alloc))
     }
 
     /// What a token would be here; where it waits, what it is in a bracket.

@@ -1,3 +1,5 @@
+//! The text of a field or a method.
+
 ghost use Rattle.std.specs.Prelude.{◌≡◌, ℕ, ◌+◌, true, nat_le, length, [], ◌∷◌, IfOk, Err};
 ghost use Rattle.cfj_model.specs.declared.class.Field.{Field};
 ghost use Rattle.cfj_model.specs.declared.class.Method.{Method};
@@ -11,6 +13,7 @@ use crate::goal::Goal;
 use crate::only::only;
 use crate::part::Part;
 use crate::reading::read_text;
+use crate::results::into_members;
 use crate::want::Want;
 use cfj_model::{FaultKind, FeatureModel, Field, Member, Method, ParseFault};
 use std::alloc::Global;
@@ -26,7 +29,7 @@ fn read_field<'a>(
     ensures fault { (at : ℕ) (kind : _) → result ≡ Err (ParseFault.At at kind) → IsFirstFault (members_wanted Want.Field model.entry.now.features) text.entry.now at kind }
 {
     let machine = read_text(alloc, Part::under(Goal::Field, model), text)?;
-    Ok(Member::Field(only(machine.fields)))
+    Ok(Member::Field(only(into_members(alloc, machine).0)))
 }
 
 fn read_method<'a>(
@@ -40,7 +43,7 @@ fn read_method<'a>(
     ensures fault { (at : ℕ) (kind : _) → result ≡ Err (ParseFault.At at kind) → IsFirstFault (members_wanted Want.Method model.entry.now.features) text.entry.now at kind }
 {
     let machine = read_text(alloc, Part::under(Goal::Method, model), text)?;
-    Ok(Member::Method(only(machine.methods)))
+    Ok(Member::Method(only(into_members(alloc, machine).1)))
 }
 
 /// The field, or else the method, that was read.
@@ -67,7 +70,8 @@ fn read_member<'a>(
     ensures fault { (at : ℕ) (kind : _) → result ≡ Err (ParseFault.At at kind) → IsFirstFault (members_wanted Want.Any model.entry.now.features) text.entry.now at kind }
 {
     let machine = read_text(alloc, Part::under(Goal::Member, model), text)?;
-    Ok(one_of(machine.fields, machine.methods))
+    let (fields, methods) = into_members(alloc, machine);
+    Ok(one_of(fields, methods))
 }
 
 /// What is wanted of a text.

@@ -1,5 +1,7 @@
+//! The fields of a class, and its end.
+
 ghost use Rattle.std.specs.Prelude.{◌≡◌, ◌∷◌, [], ◌++◌, true, IfOk, OnOk};
-ghost use Rattle.cfj_model.specs.Tokens.{OpenParen};
+ghost use Rattle.cfj_words.specs.Tokens.{OpenParen};
 ghost use Rattle.fj_parser.specs.Goals.{with_single_field};
 ghost use Rattle.fj_parser.specs.Machine as spec;
 ghost use Rattle.fj_parser.specs.MachineViews.{machine_seen, GoesIn};
@@ -7,12 +9,12 @@ ghost use Rattle.fj_symbols.specs.Views.{symbol_seen, is_name_token};
 
 use crate::machine::{Machine, NO_NAME, no_ctor};
 use crate::mode::{Mode, Node, Owner};
+use crate::names::both_names;
 use cfj_model::{Class, Colors, Field, Items};
-use fj_symbols::{Symbol, name_of};
+use fj_symbols::Symbol;
 use std::alloc::{AllocError, Global};
 use std::mem;
 
-/// The fields of a class, and its end.
 impl<'a> Machine<'a> {
     pub(crate) fn in_members(&mut self, symbol: Symbol<'a>) -> bool
         requires { is_name_token (symbol_seen symbol) ≡ true }
@@ -111,8 +113,7 @@ impl<'a> Machine<'a> {
     fn push_field(&mut self, alloc: Global) -> Result<(), AllocError>
         ensures { OnOk result (machine_seen self.new ≡ spec.with_field (machine_seen self.old)) }
     {
-        let of = name_of(alloc, self.of)?;
-        let name = name_of(alloc, self.last)?;
+        let (of, name) = both_names(alloc, self.of, self.last)?;
         self.fields.push(Field {
             alt: 0,
             colors: self.colors,
@@ -130,8 +131,7 @@ impl<'a> Machine<'a> {
     pub(crate) fn close_single_field(&mut self, alloc: Global) -> Result<(), AllocError>
         ensures { OnOk result (machine_seen self.new ≡ with_single_field (machine_seen self.old)) }
     {
-        let of = name_of(alloc, self.result_type)?;
-        let name = name_of(alloc, self.method)?;
+        let (of, name) = both_names(alloc, self.result_type, self.method)?;
         self.fields.clear();
         self.fields.push(Field {
             alt: 0,
@@ -150,8 +150,7 @@ impl<'a> Machine<'a> {
     pub(crate) fn push_class(&mut self, alloc: Global) -> Result<(), AllocError>
         ensures { OnOk result (machine_seen self.new ≡ spec.with_class (machine_seen self.old)) }
     {
-        let name = name_of(alloc, self.name)?;
-        let parent = name_of(alloc, self.parent)?;
+        let (name, parent) = both_names(alloc, self.name, self.parent)?;
         let fields = mem::replace(&mut self.fields, Vec::new(alloc));
         let ctor = mem::replace(&mut self.ctor, no_ctor(alloc));
         let methods = mem::replace(&mut self.methods, Vec::new(alloc));

@@ -1,3 +1,5 @@
+//! The methods of a class, and its end.
+
 ghost use Rattle.std.specs.Prelude.{◌≡◌, ◌≤◌, true, IfOk, OnOk, length};
 ghost use Rattle.expression_reader.specs.Machine as expression;
 ghost use Rattle.expression_reader.specs.Views.{reader_seen, IsRoomy, settles_short};
@@ -7,13 +9,13 @@ ghost use Rattle.fj_symbols.specs.Views.{symbol_seen, is_name_token, is_read};
 
 use crate::machine::{Machine, NO_NAME};
 use crate::mode::{Mode, Node, Owner};
+use crate::names::both_names;
 use cfj_model::{Colors, Expr, Items, Method};
 use expression_reader::ExpressionReader;
-use fj_symbols::{Symbol, name_of};
+use fj_symbols::Symbol;
 use std::alloc::{AllocError, Global};
 use std::mem;
 
-/// The methods of a class, and its end.
 impl<'a> Machine<'a> {
     pub(crate) fn in_methods(
         &mut self,
@@ -137,13 +139,12 @@ impl<'a> Machine<'a> {
         requires { reader_seen self.old.expression ≡ expression.start }
         ensures { OnOk result (machine_seen self.new ≡ spec.with_method (machine_seen self.old) body) }
     {
-        let result_type = name_of(alloc, self.result_type)?;
-        let name = name_of(alloc, self.method)?;
+        let (result, name) = both_names(alloc, self.result_type, self.method)?;
         let params = mem::replace(&mut self.params, Vec::new(alloc));
         self.methods.push(Method {
             alt: 0,
             colors: self.method_colors,
-            result: result_type,
+            result,
             name,
             params: Items::of(params),
             body,

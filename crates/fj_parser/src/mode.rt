@@ -1,8 +1,10 @@
+//! What was read last.
+
 ghost use Rattle.std.specs.Prelude.{◌≡◌};
 ghost use Rattle.fj_parser.specs.Machine.{takes_name};
 
 /// What parameters belong to.
-#[derive(Clone, Copy, Debug, PartialEq, Eq)]
+#[derive(Clone, Copy)]
 pub enum Owner {
     /// The constructor.
     Constructor,
@@ -11,7 +13,7 @@ pub enum Owner {
 }
 
 /// The nodes that marks may stand before.
-#[derive(Clone, Copy, Debug, PartialEq, Eq)]
+#[derive(Clone, Copy)]
 pub enum Node {
     /// A class.
     Class,
@@ -28,7 +30,7 @@ pub enum Node {
 }
 
 /// What was read last, which says what may follow.
-#[derive(Clone, Copy, Debug, PartialEq, Eq)]
+#[derive(Clone, Copy)]
 pub enum Mode {
     /// Nothing.
     Begin,

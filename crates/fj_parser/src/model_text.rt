@@ -1,3 +1,5 @@
+//! The text of a feature model.
+
 ghost use Rattle.std.specs.Prelude.{◌≡◌, ℕ, IfOk, Err};
 ghost use Rattle.cfj_model.specs.declared.feature_model.FeatureModel.{FeatureModel};
 ghost use Rattle.cfj_model.specs.Faults.{IsFirstFault, IsTextOf};
@@ -7,6 +9,7 @@ ghost use Rattle.fj_parser.specs.Languages.{models};
 use crate::goal::Goal;
 use crate::part::Part;
 use crate::reading::read_text;
+use crate::results::into_parts;
 use cfj_model::{FaultKind, FeatureModel, ParseFault};
 use std::alloc::Global;
 
@@ -15,7 +18,7 @@ fn read_model<'a>(alloc: Global, text: &'a str) -> Result<FeatureModel, ParseFau
     ensures fault { (at : ℕ) (kind : _) → result ≡ Err (ParseFault.At at kind) → IsFirstFault models text.entry.now at kind }
 {
     let machine = read_text(alloc, Part::alone(Goal::Model), text)?;
-    let (model, _) = machine.into_parts();
+    let (model, _) = into_parts(alloc, machine);
     Ok(model)
 }
 

@@ -1,12 +1,15 @@
+//! The text of a name.
+
 ghost use Rattle.std.specs.Prelude.{◌≡◌, ℕ, true, List, IfOk, Err};
 ghost use Rattle.cfj_model.specs.Faults.{IsFirstFault, IsTextOf};
-ghost use Rattle.cfj_model.specs.Names.{is_name};
+ghost use Rattle.cfj_words.specs.Names.{is_name};
 ghost use Rattle.fj_parser.specs.Answers.{IsReadAs, IsRefusedAs};
 ghost use Rattle.fj_parser.specs.Languages.{names};
 
 use crate::goal::Goal;
 use crate::part::Part;
 use crate::reading::read_text;
+use crate::results::into_name;
 use cfj_model::{FaultKind, Name, ParseFault};
 use fj_symbols::name_of;
 use std::alloc::Global;
@@ -17,7 +20,7 @@ fn read_word<'a>(alloc: Global, text: &'a str) -> Result<&'a str, ParseFault>
     ensures fault { (at : ℕ) (kind : _) → result ≡ Err (ParseFault.At at kind) → IsFirstFault names text.entry.now at kind }
 {
     let machine = read_text(alloc, Part::alone(Goal::Name), text)?;
-    Ok(machine.of)
+    Ok(into_name(machine))
 }
 
 fn read_name(alloc: Global, text: &str) -> Result<Name, ParseFault>

@@ -1,3 +1,5 @@
+//! The one item of a list.
+
 ghost use Rattle.std.specs.Prelude.{◌≡◌, [], ◌∷◌, length};
 
 /// The one item of a list.

@@ -1,16 +1,18 @@
+//! The parameters of a constructor or a method.
+
 ghost use Rattle.std.specs.Prelude.{◌≡◌, ◌^◌, ◌<◌, true, IfOk, OnOk, length};
-ghost use Rattle.cfj_model.specs.Names.{is_name};
+ghost use Rattle.cfj_words.specs.Names.{is_name};
 ghost use Rattle.fj_parser.specs.Machine as spec;
 ghost use Rattle.fj_parser.specs.MachineViews.{machine_seen, GoesIn};
 ghost use Rattle.fj_symbols.specs.Views.{symbol_seen, is_name_token};
 
 use crate::machine::{Machine, NO_NAME};
 use crate::mode::{Mode, Node, Owner};
+use crate::names::both_names;
 use cfj_model::{Colors, Param};
-use fj_symbols::{Symbol, name_of};
+use fj_symbols::Symbol;
 use std::alloc::{AllocError, Global};
 
-/// The parameters of a constructor or a method.
 impl<'a> Machine<'a> {
     pub(crate) fn in_params(&mut self, owner: Owner, symbol: Symbol<'a>) -> bool
         requires { is_name_token (symbol_seen symbol) ≡ true }
@@ -94,8 +96,7 @@ impl<'a> Machine<'a> {
         requires room { length self.old.params.items < 2 ^ 16 }
         ensures { OnOk result (machine_seen self.new ≡ spec.with_param owner (machine_seen self.old) name.now) }
     {
-        let of = name_of(alloc, self.of)?;
-        let name = name_of(alloc, name)?;
+        let (of, name) = both_names(alloc, self.of, name)?;
         self.params.push(Param {
             slot: self.params.len() as u16,
             colors: self.colors,

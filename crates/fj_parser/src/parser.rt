@@ -1,3 +1,5 @@
+//! The text of a project.
+
 ghost use Rattle.std.specs.Prelude.{◌≡◌, ℕ, ◌≤◌, length, IfOk, Err};
 ghost use Rattle.cfj_model.specs.Faults.{IsFirstFault, IsTextOf, projects};
 ghost use Rattle.cfj_model.specs.ProductLines.{ProductLine};
@@ -7,6 +9,7 @@ ghost use Rattle.fj_parser.specs.Reading.{of_parts};
 use crate::goal::Goal;
 use crate::part::Part;
 use crate::reading::read_text;
+use crate::results::into_parts;
 use cfj_model::{Class, FaultKind, FeatureModel, ParseFault, Project};
 use std::alloc::Global;
 use std::str;
@@ -18,7 +21,7 @@ fn read_parts(alloc: Global, text: &str) -> Result<(FeatureModel, Vec<Class>), P
     ensures fault { (at : ℕ) (kind : _) → result ≡ Err (ParseFault.At at kind) → IsFirstFault projects text.now at kind }
 {
     let machine = read_text(alloc, Part::alone(Goal::Project), text)?;
-    Ok(machine.into_parts())
+    Ok(into_parts(alloc, machine))
 }
 
 fn read_project(alloc: Global, text: &[u8]) -> Result<Project, ParseFault>

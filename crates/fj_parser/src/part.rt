@@ -1,5 +1,7 @@
-ghost use Rattle.std.specs.Prelude.{◌≡◌, true, nat_le, [], length, IfOk};
-ghost use Rattle.cfj_model.specs.Names.{is_name};
+//! A part of a project that is read by itself, with what it stands under.
+
+ghost use Rattle.std.specs.Prelude.{◌≡◌, true, nat_le, [], length, IfOk, OnOk};
+ghost use Rattle.cfj_words.specs.Names.{is_name};
 ghost use Rattle.cfj_model.specs.ProductLines.{are_distinct, most_features};
 
 use crate::goal::Goal;
@@ -33,6 +35,7 @@ fn features_of<'a>(alloc: Global, names: &'a [Name]) -> Result<Features<'a>, All
 }
 
 impl<'a> Part<'a> {
+    ghost use Rattle.cfj_model.specs.Roles.{nothing};
     ghost use Rattle.fj_parser.specs.GoalViews.{met_of, IsPart};
     ghost use Rattle.fj_parser.specs.Goals.{start_for};
     ghost use Rattle.fj_parser.specs.Machine.{behind, unnamed};
@@ -90,6 +93,13 @@ impl<'a> Part<'a> {
         }
     }
 
+    /// The machine before the first token, in memory of its own.
+    pub fn boxed(self, alloc: Global) -> Result<Box<Machine<'a>>, AllocError>
+        ensures { IfOk result (λ machine. machine_seen machine.value ≡ start_for self.entry.goal self.entry.features.now self.entry.class.now) }
+    {
+        Ok(Box::new(alloc, self.machine(alloc)?)?)
+    }
+
     fn begin(self, alloc: Global, mode: Mode, name: &'a str) -> Result<Machine<'a>, AllocError>
         requires { is_name name.now ≡ true }
         ensures { IfOk result (λ machine. machine_seen machine ≡ record (behind self.entry.features.now [] []) { mode = mode; name = name.entry.now }) }
@@ -98,14 +108,14 @@ impl<'a> Part<'a> {
         Ok(Machine::beginning(alloc, mode, features, name))
     }
 
-    /// What counts as met before the first token: the features.
-    pub fn tally(self, alloc: Global) -> Result<Tally<'a>, AllocError>
-        ensures { IfOk result (λ tally. tally_seen tally ≡ met_of self.entry) }
+    /// Counts what is met before the first token: the features.
+    pub fn count_features(self, tally: &mut Tally<'a>) -> Result<(), AllocError>
+        requires { tally_seen tally.old ≡ nothing }
+        ensures { OnOk result (tally_seen tally.new ≡ met_of self.entry) }
     {
-        let mut tally = Tally::new(alloc);
         'each: for item in self.features {
             tally.count_feature(item.text())?;
         }
-        Ok(tally)
+        Ok(())
     }
 }

@@ -1,3 +1,5 @@
+//! What a token does where a part of a project is read by itself.
+
 ghost use Rattle.std.specs.Prelude.{◌≡◌};
 ghost use Rattle.fj_parser.specs.declared.goal.Goal.TheVariants as goal;
 ghost use Rattle.fj_parser.specs.GoalViews.{Does, DoesIn};
@@ -9,7 +11,7 @@ use crate::mode::Mode;
 use fj_symbols::Symbol;
 
 /// What a token does where a part of a project is read by itself.
-#[derive(Clone, Copy, Debug, PartialEq, Eq)]
+#[derive(Clone, Copy)]
 pub enum Passage {
     /// It can't stand there.
     Stops,

@@ -1,3 +1,5 @@
+//! Reads a whole text, from its first token to its end.
+
 ghost use Rattle.std.specs.Prelude.{◌≡◌, ℕ, [], true, None, Some, IfOk, Ok, Err, OnOk};
 ghost use Rattle.std.specs.Str.{IsUtf8};
 ghost use Rattle.fj_parser.specs.Accepting.{IsTaken, IsTold, IsToldAt};
@@ -145,7 +147,9 @@ fn read_on<'a>(
     ensures fault { (at : ℕ) (kind : _) → result ≡ Err (ParseFault.At at kind) → IsStopped (met_of part.entry) (reader_of part.entry) text.entry.now at kind }
 {
     let mut lexer = Lexer::new(text);
-    let mut tally = part.tally(alloc)?;
+    // In a box, which is dropped in one step on each way out; in place each of its names would be one.
+    let mut tally = Box::new(alloc, Tally::new(alloc))?;
+    part.count_features(&mut tally)?;
     read_tokens(alloc, part, &mut lexer, machine, &mut tally)
 }
 
@@ -154,12 +158,12 @@ pub fn read_text<'a>(
     alloc: Global,
     part: Part<'a>,
     text: &'a str,
-) -> Result<Machine<'a>, ParseFault>
+) -> Result<Box<Machine<'a>>, ParseFault>
     requires { SettlesEach (reader_of part) }
-    ensures read { IfOk result (λ machine. IsReadTo (met_of part.entry) (reader_of part.entry) text.entry.now (machine_seen machine)) }
+    ensures read { IfOk result (λ machine. IsReadTo (met_of part.entry) (reader_of part.entry) text.entry.now (machine_seen machine.value)) }
     ensures fault { (at : ℕ) (kind : _) → result ≡ Err (ParseFault.At at kind) → IsStopped (met_of part.entry) (reader_of part.entry) text.entry.now at kind }
 {
-    let mut machine = part.machine(alloc)?;
+    let mut machine = part.boxed(alloc)?;
     read_on(alloc, part, text, &mut machine)?;
     Ok(machine)
 }

@@ -1,3 +1,5 @@
+//! The roles of tokens outside of formulas and expressions.
+
 ghost use Rattle.std.specs.Prelude.{◌≡◌};
 ghost use Rattle.fj_parser.specs.Machine.{name_role, token_role};
 ghost use Rattle.fj_symbols.specs.Views.{role_seen, symbol_seen};
@@ -30,6 +32,6 @@ pub fn role_of<'a>(mode: Mode, symbol: Symbol<'a>) -> Role<'a>
 {
     match symbol {
         Symbol::Id(name) => name_role(mode, name),
-        _ => Role::Plain,
+        _ => Role::Other,
     }
 }

@@ -1,3 +1,5 @@
+//! Counts the tokens that waited, once it is known what they are.
+
 ghost use Rattle.std.specs.Prelude.{◌≡◌, [], ◌∷◌, true, IfOk};
 ghost use Rattle.cfj_model.specs.Roles.{opens, var_name};
 ghost use Rattle.expression_reader.specs.Machine.{settled};
@@ -75,8 +77,8 @@ fn count_both<'a>(
     name: FirstName<'a>,
 ) -> Result<Option<Refusal>, AllocError>
     ensures { IfOk result (AreCounted (tally_seen tally.old)
-        (settled_role settling (opens bracket.depth) ∷ (settled_role settling (var_name name.entry.name.now) ∷ []))
-        (bracket.at ∷ (name.entry.at ∷ [])) (tally_seen tally.new)) }
+        (settled_role settling (opens bracket.depth) ∷ settled_role settling (var_name name.entry.name.now) ∷ [])
+        (bracket.at ∷ name.entry.at ∷ []) (tally_seen tally.new)) }
 {
     if let Some(refusal) = count_bracket(alloc, tally, settling, bracket)? {
         return Ok(Some(refusal));

@@ -1,5 +1,7 @@
+//! The tokens whose roles wait.
+
 ghost use Rattle.std.specs.Prelude.{◌≡◌, true};
-ghost use Rattle.cfj_model.specs.Names.{is_identifier};
+ghost use Rattle.cfj_words.specs.Names.{is_identifier};
 
 use cfj_model::FaultKind;
 use fj_symbols::Role;
@@ -49,7 +51,7 @@ impl<'a> Waiting<'a> {
             (Waiting::Bracket(bracket), Role::VarName(name)) => {
                 Waiting::Name(bracket, FirstName { name, at })
             }
-            (Waiting::Name(bracket, name), Role::Plain) => Waiting::Closed(bracket, name, at),
+            (Waiting::Name(bracket, name), Role::Other) => Waiting::Closed(bracket, name, at),
             _ => unreachable!(),
         }
     }

@@ -1,3 +1,5 @@
+//! Which members are wanted.
+
 /// Which members are read.
 #[derive(Clone, Copy, Debug, PartialEq, Eq)]
 pub enum Want {

@@ -1,9 +1,9 @@
 -- The text of a formula, variant by variant.
 use Rattle.std.proofs.Common.{◌≡◌, ap, sym, ◌∙◌, ℕ, ◌<◌, ◌≤◌, List, ◌++◌, codes, if◌then◌else◌, arith}
 use Rattle.std.proofs.lemmas.Bool.{lt-ltb, le-ltb}
-use Rattle.cfj_model.specs.declared.formula.Formula.{Formula}
-use Rattle.cfj_model.specs.declared.formula.Formula.TheVariants as f
-use Rattle.cfj_model.proofs.FormulaCases.{fold_not, fold_and, fold_or, fold_implies, fold_iff}
+use Rattle.cfj_logic.specs.declared.formula.Formula.{Formula}
+use Rattle.cfj_logic.specs.declared.formula.Formula.TheVariants as f
+use Rattle.cfj_logic.proofs.FormulaCases.{fold_not, fold_and, fold_or, fold_implies, fold_iff}
 use Rattle.cfj_model.specs.Print.{ShownFormula, shown_formula_step, formula_text, operand_text}
 use Rattle.fj_printer.specs.Parts.{shown_formula}
 

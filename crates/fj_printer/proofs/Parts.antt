@@ -11,7 +11,7 @@ use Rattle.cfj_model.specs.declared.class.Method.{Method}
 use Rattle.cfj_model.specs.Print.{line_end, texts, joined, field_text, param_text, sent_text, assign_text, ctor_text, expr_text, method_text, class_text, name_text, features_text, plain_printed}
 use Rattle.cfj_model.specs.ProductLines.{ProductLine}
 use Rattle.cfj_model.specs.Projection.{is_present, bare_field, bare_param, bare_sent, projected, projected_class}
-use Rattle.cfj_model.specs.Selections.{Chosen}
+use Rattle.cfj_logic.specs.Selections.{Chosen}
 use Rattle.feature_views.specs.Selected.{selected_nodes, selected_method}
 use Rattle.feature_views.proofs.Presence.{ctor_is, class_is}
 use Rattle.fj_printer.specs.declared.showing.Showing.{Showing}

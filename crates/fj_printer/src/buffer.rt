@@ -1,3 +1,5 @@
+//! A buffer of fixed size between the printer and a sink.
+
 ghost use Rattle.std.specs.Prelude.{◌≡◌, ◌-◌, [], ◌++◌, length, take, min, nat_le};
 
 use std::marker::Model;

@@ -1,3 +1,5 @@
+//! Classes and their fields.
+
 ghost use Rattle.std.specs.Prelude.{◌≡◌, ◌≤◌, true, length};
 ghost use Rattle.cfj_model.specs.Print.{texts, field_text};
 ghost use Rattle.fj_printer.specs.Adds.{Adds};

@@ -1,3 +1,5 @@
+//! Constructors, and lists of parameters.
+
 ghost use Rattle.std.specs.Prelude.{◌≤◌, ◌++◌, length};
 ghost use Rattle.cfj_model.specs.Print.{texts, joined, param_text, sent_text, assign_text, ctor_text};
 ghost use Rattle.fj_printer.specs.Adds.{Adds};

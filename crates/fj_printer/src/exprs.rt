@@ -1,3 +1,5 @@
+//! Expressions.
+
 ghost use Rattle.std.specs.Prelude.{◌≡◌, ◌≤◌, ℕ, List, ◌++◌, length};
 ghost use Rattle.cfj_model.specs.Print.{joined, expr_text, receiver_text};
 ghost use Rattle.fj_printer.specs.Adds.{Adds};

@@ -1,3 +1,5 @@
+//! The feature line.
+
 ghost use Rattle.std.specs.Prelude.{◌++◌};
 ghost use Rattle.cfj_model.specs.Print.{joined, name_text, features_text};
 ghost use Rattle.fj_printer.specs.Adds.{Adds};

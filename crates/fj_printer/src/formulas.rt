@@ -1,6 +1,8 @@
+//! Constraints, with the fewest brackets.
+
 ghost use Rattle.std.specs.Prelude.{◌≡◌, ℕ, List, true, length};
 ghost use Rattle.std.specs.List.{list_all};
-ghost use Rattle.cfj_model.specs.Formulas.{is_over};
+ghost use Rattle.cfj_logic.specs.Formulas.{is_over};
 ghost use Rattle.cfj_model.specs.Print.{texts, operand_text, formula_text, constraint_text};
 ghost use Rattle.cfj_model.specs.ProductLines.{is_constraint};
 ghost use Rattle.fj_printer.specs.Adds.{Adds};

@@ -1,3 +1,5 @@
+//! The marks of a node.
+
 ghost use Rattle.std.specs.Prelude.{◌<◌, ◌≤◌, ◌++◌, length};
 ghost use Rattle.cfj_model.specs.Print.{texts, mark_text, marks_text};
 ghost use Rattle.fj_printer.specs.Adds.{Adds};

@@ -1,3 +1,5 @@
+//! Methods.
+
 ghost use Rattle.std.specs.Prelude.{◌≤◌, length};
 ghost use Rattle.cfj_model.specs.Print.{texts};
 ghost use Rattle.fj_printer.specs.Adds.{Adds};

@@ -1,3 +1,5 @@
+//! Pieces of text, through the buffer into the sink.
+
 ghost use Rattle.std.specs.Prelude.{◌≡◌, ◌<◌, [], length, OnOk};
 ghost use Rattle.cfj_model.specs.Print.{texts};
 ghost use Rattle.fj_printer.specs.Adds.{Adds};

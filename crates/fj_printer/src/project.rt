@@ -1,3 +1,5 @@
+//! Whole projects, variants and classes.
+
 ghost use Rattle.std.specs.Prelude.{◌≡◌, ◌≤◌, true, length};
 ghost use Rattle.cfj_model.specs.Print.{texts, class_text, printed, plain_printed};
 ghost use Rattle.cfj_model.specs.ProductLines.{IsPlain, is_class};

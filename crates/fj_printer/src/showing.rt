@@ -1,3 +1,5 @@
+//! Which nodes are printed, and whether with their marks.
+
 ghost use Rattle.std.specs.Prelude.{◌≡◌};
 ghost use Rattle.fj_printer.specs.Shown.{names, shows};
 
@@ -19,7 +21,7 @@ impl<'a> Showing<'a> {
     {
         match self {
             Showing::Marked(_) => true,
-            Showing::Selected(selection) => selection.includes(colors),
+            Showing::Selected(selection) => colors.is_kept_by(selection),
         }
     }
 

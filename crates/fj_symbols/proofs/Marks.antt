@@ -2,7 +2,7 @@
 use Rattle.std.proofs.Common.{arith, ◌≡◌, ℕ, ◌==◌, Bool, true, false, if◌then◌else◌, codes, List, [], ◌∷◌, length, slice_index, refl, sym, ap, ◌∙◌, true≢false}
 use Rattle.std.specs.Str.{bytes_eq}
 use Rattle.std.proofs.lemmas.Slice.Eq.{bytes_eq-Decides}
-use Rattle.cfj_model.specs.Tokens.{mark_token}
+use Rattle.cfj_words.specs.Tokens.{mark_token}
 use Rattle.fj_symbols.specs.Views.{arrow_token}
 
 other_mark : (m mark : List ℕ) → (length mark == 1) ≡ true → (length m == 1) ≡ false → bytes_eq m mark ≡ false

@@ -2,8 +2,8 @@
 use Rattle.std.specs.Prelude.{ℕ, Bool, true, if◌then◌else◌, List, codes}
 use Rattle.std.specs.Str.{bytes_eq}
 use Rattle.std.specs.List.{list_all}
-use Rattle.cfj_model.specs.Names.{is_identifier, is_name}
-use Rattle.cfj_model.specs.Tokens as token
+use Rattle.cfj_words.specs.Names.{is_identifier, is_name}
+use Rattle.cfj_words.specs.Tokens as token
 use Rattle.cfj_model.specs.Roles as role
 use Rattle.fj_lexer.specs.declared.token.TokenKind.{TokenKind}
 use Rattle.fj_lexer.specs.declared.token.TokenKind.TheVariants.{Word, Reserved, Mark}
@@ -67,7 +67,7 @@ role_seen (r.FormulaOpens n) = role.formula_opens n
 role_seen (r.Opens n) = role.opens n
 role_seen (r.Casts n) = role.casts n
 role_seen r.Node = role.node
-role_seen r.Plain = role.plain
+role_seen r.Other = role.other_token
 
 -- the name in a role is an identifier
 abbrev pub is_identifier_role : role.Role → Bool

@@ -1,6 +1,8 @@
+//! The features of a project, with their numbers.
+
 ghost use Rattle.std.specs.Prelude.{◌≡◌, ◌<◌, [], ◌∷◌, ◌++◌, true, IfSome, OnOk, length, position};
 ghost use Rattle.std.specs.Str.{bytes_eq};
-ghost use Rattle.cfj_model.specs.Names.{is_name};
+ghost use Rattle.cfj_words.specs.Names.{is_name};
 ghost use Rattle.fj_symbols.specs.Places.{ArePlaced};
 
 use crate::names::name_of;

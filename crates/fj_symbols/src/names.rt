@@ -1,5 +1,7 @@
+//! Names from texts that are known to be names.
+
 ghost use Rattle.std.specs.Prelude.{◌≡◌, true, IfOk};
-ghost use Rattle.cfj_model.specs.Names.{is_name};
+ghost use Rattle.cfj_words.specs.Names.{is_name};
 
 use cfj_model::Name;
 use std::alloc::{AllocError, Global};

@@ -1,3 +1,5 @@
+//! What a token is in its text.
+
 /// What a token is in its text; the names are those that a rule or a limit is about, the numbers how many constructs are open
 /// with the token's own.
 #[derive(Clone, Copy)]
@@ -37,5 +39,5 @@ pub enum Role<'a> {
     /// The own token of another node of an expression: `this`, `new`, or the dot of an access or a call.
     Node,
     /// Any other token.
-    Plain,
+    Other,
 }

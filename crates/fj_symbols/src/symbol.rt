@@ -1,6 +1,8 @@
+//! Tokens as the grammar knows them.
+
 ghost use Rattle.std.specs.Prelude.{◌≡◌, ◌∷◌, [], true};
-ghost use Rattle.cfj_model.specs.Names.{is_reserved};
-ghost use Rattle.cfj_model.specs.Tokens.{is_reserved_word, mark_token, word_token};
+ghost use Rattle.cfj_words.specs.Names.{is_reserved};
+ghost use Rattle.cfj_words.specs.Tokens.{is_reserved_word, mark_token, word_token};
 ghost use Rattle.fj_symbols.specs.Views.{arrow_token, symbol_seen, token_read};
 
 use fj_lexer::{Token, TokenKind};
@@ -70,7 +72,7 @@ pub fn symbol_of<'a>(token: Token<'a>) -> Symbol<'a>
 }
 
 /// What a reserved word is.
-#[tactic(auto, unfolding(cfj_model::specs::Tokens::word_token))]
+#[tactic(auto, unfolding(cfj_words::specs::Tokens::word_token))]
 fn reserved_symbol(word: &str) -> Symbol<'static>
     requires { is_reserved word.now ≡ true }
     ensures { symbol_seen result ≡ word_token word.now }
@@ -120,7 +122,7 @@ fn arrow(mark: &str) -> Symbol<'static>
 }
 
 /// What a punctuation text of this one byte is.
-#[tactic(auto, unfolding(cfj_model::specs::Tokens::mark_token))]
+#[tactic(auto, unfolding(cfj_words::specs::Tokens::mark_token))]
 fn single_mark(byte: u8) -> Symbol<'static>
     ensures { symbol_seen result ≡ mark_token (byte ∷ []) }
 {

@@ -5,7 +5,7 @@ use Rattle.std.specs.List.{list_any}
 use Rattle.std.specs.Str.{bytes_eq}
 use Rattle.std.proofs.lemmas.Slice.Eq.{bytes_eq-Decides}
 use Rattle.std.proofs.lemmas.Bool.Decides.{same_from_decides}
-use Rattle.cfj_model.specs.ProductLines.{has}
+use Rattle.cfj_words.specs.Names.{is_among}
 
 pub bytes_eq-sym : (a b : List ℕ) → bytes_eq a b ≡ bytes_eq b a
 bytes_eq-sym a b =
@@ -13,6 +13,6 @@ bytes_eq-sym a b =
     same_from_decides (bytes_eq a b) (bytes_eq b a) (bytes_eq-Decides a b) (λ h. sym (d.0 h), λ e. d.1 (sym e))
 
 -- the set has a name where the list has
-pub has-map : (keys : List (Bor (List ℕ))) (name : List ℕ) → list_any (λ k. bytes_eq name k.now) keys ≡ has (map (λ k. k.now) keys) name
+pub has-map : (keys : List (Bor (List ℕ))) (name : List ℕ) → list_any (λ k. bytes_eq name k.now) keys ≡ is_among (map (λ k. k.now) keys) name
 has-map [] name = refl
 has-map (k ∷ keys) name = ap (λ b. b || list_any (λ k. bytes_eq name k.now) keys) (bytes_eq-sym name k.now) ∙ ap (λ b. bytes_eq k.now name || b) (has-map keys name)

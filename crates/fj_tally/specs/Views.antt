@@ -25,7 +25,7 @@ tally_seen t =
 
 -- the tests of a name in a list of a constructor that has so many before it
 abbrev pub broken_in_list : role.Tally → ℕ → List ℕ → Option FaultKind
-broken_in_list t before w = role.first_of ((role.is_long w, Limit limit.Name) ∷ ((nat_le most_in_ctor before, Limit limit.Ctor) ∷ (role.past_size t ∷ [])))
+broken_in_list t before w = role.first_of ((role.is_long w, Limit limit.Name) ∷ (nat_le most_in_ctor before, Limit limit.Ctor) ∷ role.past_size t ∷ [])
 
 -- one more declaration, sent name, assignment or node
 abbrev pub with_declaration : role.Tally → role.Tally

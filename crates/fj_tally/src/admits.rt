@@ -1,3 +1,5 @@
+//! What a token adds to what was met.
+
 ghost use Rattle.std.specs.Prelude.{◌≡◌, ◌<◌, None, IfOk, OnOk};
 ghost use Rattle.cfj_model.specs.Roles as spec;
 ghost use Rattle.fj_tally.specs.Views.{tally_seen, with_declaration, Admits};
@@ -26,7 +28,7 @@ impl<'a> Tally<'a> {
     {
         match role {
             // Most tokens are these.
-            Role::Plain => Ok(true),
+            Role::Other => Ok(true),
             _ => self.admit_counted(role),
         }
     }
@@ -52,7 +54,7 @@ impl<'a> Tally<'a> {
             Role::Opens(depth) => Ok(self.admit_opens(depth)),
             Role::Casts(depth) => Ok(self.admit_cast(depth)),
             Role::Node => Ok(self.admit_node()),
-            Role::Plain => Ok(true),
+            Role::Other => Ok(true),
         }
     }
 

@@ -1,5 +1,7 @@
+//! Names that were met, in the order in which they came.
+
 ghost use Rattle.std.specs.Prelude.{◌≡◌, [], ◌∷◌, ◌++◌, if◌then◌else◌, not, IfOk, length};
-ghost use Rattle.cfj_model.specs.ProductLines.{has};
+ghost use Rattle.cfj_words.specs.Names.{is_among};
 
 use indexmap::IndexSet;
 use std::alloc::{AllocError, Global};
@@ -38,7 +40,7 @@ impl<'a> Met<'a> {
 
     /// Whether a name was met.
     pub fn has(&self, name: &str) -> bool
-        ensures { result ≡ has self.now name.now }
+        ensures { result ≡ is_among self.now name.now }
     {
         self.names.contains(name)
     }
@@ -49,7 +51,7 @@ impl<'a> Met<'a> {
     ///
     /// There is no memory for it.
     pub fn add(&mut self, name: &'a str) -> Result<bool, AllocError>
-        ensures fresh { IfOk result (λ fresh. fresh ≡ not (has self.old name.now)) }
+        ensures fresh { IfOk result (λ fresh. fresh ≡ not (is_among self.old name.now)) }
         ensures added { IfOk result (λ fresh. self.new ≡ if fresh then self.old ++ name.now ∷ [] else self.old) }
     {
         Ok(self.names.insert(name)?)

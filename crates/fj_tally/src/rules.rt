@@ -1,6 +1,7 @@
+//! The rules and the limits that a token can break.
+
 ghost use Rattle.std.specs.Prelude.{◌≡◌, ◌∷◌, [], Some, true, not, is_some, IfOk};
-ghost use Rattle.cfj_model.specs.ProductLines.{has};
-ghost use Rattle.cfj_model.specs.Names.{is_identifier, is_name};
+ghost use Rattle.cfj_words.specs.Names.{is_among, is_identifier, is_name};
 ghost use Rattle.cfj_model.specs.Roles as spec;
 ghost use Rattle.fj_tally.specs.Views.{broken_in_list, tally_seen};
 ghost use Rattle.fj_symbols.specs.Views.{is_identifier_role, role_seen};
@@ -60,7 +61,6 @@ pub(crate) fn is_deep(depth: usize) -> bool
     depth > MOST_NEST
 }
 
-/// The rules and limits that a token can break.
 impl<'a> Tally<'a> {
     /// The fault of a token in this role that breaks a rule or a limit.
     ///
@@ -101,7 +101,7 @@ impl<'a> Tally<'a> {
             Role::Opens(depth) => Ok(self.broken_by_opens(depth)),
             Role::Casts(depth) => Ok(self.broken_by_cast(depth)),
             Role::Node => Ok(self.broken_by_node()),
-            Role::Plain => Ok(None),
+            Role::Other => Ok(None),
         }
     }
 
@@ -137,7 +137,7 @@ impl<'a> Tally<'a> {
     }
 
     pub(crate) fn is_unknown(&self, name: &str) -> bool
-        ensures { result ≡ not (has self.now.features name.now) }
+        ensures { result ≡ not (is_among self.now.features name.now) }
     {
         !self.features.has(name)
     }

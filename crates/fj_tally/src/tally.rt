@@ -1,3 +1,5 @@
+//! What was met before a place in a text.
+
 ghost use Rattle.std.specs.Prelude.{◌≡◌};
 ghost use Rattle.cfj_model.specs.Roles as spec;
 

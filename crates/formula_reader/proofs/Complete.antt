@@ -1,10 +1,10 @@
 -- The text of each formula's tree is read: in the tree's roles, and to the tree's value.
 use Rattle.std.proofs.Common.{◌≡◌, ℕ, ◌+◌, List, [], ◌∷◌, Some, refl, ◌∙◌, ap}
-use Rattle.cfj_model.specs.declared.formula.Formula.{Formula}
-use Rattle.cfj_model.specs.declared.formula.Formula.TheVariants as f
+use Rattle.cfj_logic.specs.declared.formula.Formula.{Formula}
+use Rattle.cfj_logic.specs.declared.formula.Formula.TheVariants as f
 use Rattle.cfj_model.specs.FormulaGrammar.{IffTree, one_implies, iff, ImpliesTree, one_or, implies, OrTree, one_and, or, AndTree, one_unary, and, UnaryTree, negated, named, true_word, false_word, bracketed, spell_iff, spell_implies, spell_or, spell_and, spell_unary, roles_iff, roles_implies, roles_or, roles_and, roles_unary, value_iff, value_implies, value_or, value_and, value_unary}
-use Rattle.cfj_model.specs.Roles.{Role, formula_node, formula_opens, opens, plain}
-use Rattle.cfj_model.specs.Tokens.{Token, CloseParen, Semicolon, Ampersand, Bar, Arrow, DoubleArrow}
+use Rattle.cfj_model.specs.Roles.{Role, formula_node, formula_opens, opens, other_token}
+use Rattle.cfj_words.specs.Tokens.{Token, CloseParen, Semicolon, Ampersand, Bar, Arrow, DoubleArrow}
 use Rattle.formula_reader.specs.declared.frame.Frame.{Frame}
 use Rattle.formula_reader.specs.declared.frame.Frame.TheVariants.{InAnd, InOr, InImplies, InIff, InNot, InBracket}
 use Rattle.formula_reader.specs.declared.mode.Mode.TheVariants.{Want, After}
@@ -167,6 +167,6 @@ module _ (features : List (List ℕ)) where
         ∙ ap (with_roles (roles_implies (depth fs) y)) (iff_done ts h fs (value_iff features x) (value_implies features y))))
 
   -- a formula and its semicolon are read
-  pub formula_runs : (x : IffTree) → run features (spell_iff x (Semicolon ∷ [])) start ≡ (Some (done (value_iff features x)), roles_iff 0 x (plain ∷ []))
+  pub formula_runs : (x : IffTree) → run features (spell_iff x (Semicolon ∷ [])) start ≡ (Some (done (value_iff features x)), roles_iff 0 x (other_token ∷ []))
   unfolding run
   formula_runs x = iff_runs x (Semicolon ∷ []) (behind_iff (at_semicolon [])) [] in_nothing

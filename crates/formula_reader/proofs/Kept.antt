@@ -10,16 +10,17 @@ use Rattle.std.specs.Str.{bytes_eq}
 use Rattle.cfj_model.specs.declared.fault.FaultKind.{FaultKind}
 use Rattle.cfj_model.specs.declared.fault.FaultKind.TheVariants.{NoFeature, Limit}
 use Rattle.cfj_model.specs.declared.fault.LimitKind.TheVariants as limit
-use Rattle.cfj_model.specs.declared.formula.Formula.{Formula}
-use Rattle.cfj_model.specs.declared.formula.Formula.TheVariants as f
-use Rattle.cfj_model.specs.declared.formula.Formula.TheFolds.{fold-Formula}
-use Rattle.cfj_model.specs.Formulas.{FormulaNesting, operand_depth, formula_nesting_step, formula_nest, formula_node_count}
+use Rattle.cfj_logic.specs.declared.formula.Formula.{Formula}
+use Rattle.cfj_logic.specs.declared.formula.Formula.TheVariants as f
+use Rattle.cfj_logic.specs.declared.formula.Formula.TheFolds.{fold-Formula}
+use Rattle.cfj_logic.specs.Formulas.{FormulaNesting, operand_depth, formula_nesting_step, formula_nest, formula_node_count}
 use Rattle.cfj_model.specs.FormulaGrammar.{IffTree, one_implies, iff, ImpliesTree, one_or, implies, OrTree, one_and, or, AndTree, one_unary, and, UnaryTree, negated, named, true_word, false_word, bracketed, roles_iff, roles_implies, roles_or, roles_and, roles_unary, feature_at, value_iff, value_implies, value_or, value_and, value_unary}
 use Rattle.cfj_model.specs.Marks.{in_order}
 use Rattle.cfj_model.specs.TreeRoles.{roles_constraint}
-use Rattle.cfj_model.specs.ProductLines.{most_nest, most_formula_nodes, has, is_constraint}
-use Rattle.cfj_model.specs.Roles.{Role, formula_name, formula_node, formula_opens, opens, casts, plain, Tally, counted, tallied, first_of, is_long, past_formula, past_nest, past_nodes, past_size, broken_by, AreWithin}
-use Rattle.cfj_model.proofs.FormulaCases.{fold_true, fold_false, fold_feat, fold_not, fold_and, fold_or, fold_implies, fold_iff}
+use Rattle.cfj_model.specs.ProductLines.{most_nest, most_formula_nodes, is_constraint}
+use Rattle.cfj_words.specs.Names.{is_among}
+use Rattle.cfj_model.specs.Roles.{Role, formula_name, formula_node, formula_opens, opens, casts, other_token, Tally, counted, tallied, first_of, is_long, past_formula, past_nest, past_nodes, past_size, broken_by, AreWithin}
+use Rattle.cfj_logic.proofs.FormulaCases.{fold_true, fold_false, fold_feat, fold_not, fold_and, fold_or, fold_implies, fold_iff}
 use Rattle.formula_reader.proofs.Texts.{roles_iff_append}
 use Rattle.formula_reader.proofs.Values.{iff_over, with_formula, iff_adds}
 
@@ -63,7 +64,7 @@ shallow_within t (r ∷ rs) w = (shallow_role t r w.0, shallow_within (counted t
 -- nor does it pass the limit of formula nodes
 few_behind : (t : Tally) (r : Role) → t.formula_nodes ≤ most_formula_nodes → broken_by t r ≡ None → (counted t r).formula_nodes ≤ most_formula_nodes
 few_behind t (formula_name w) few e =
-    let room = leb-false _ _ (none_holds ((is_long w, Limit limit.Name) ∷ ((not (has t.features w), NoFeature w) ∷ (past_formula t ∷ []))) e).1.1.0 in
+    let room = leb-false _ _ (none_holds ((is_long w, Limit limit.Name) ∷ ((not (is_among t.features w), NoFeature w) ∷ (past_formula t ∷ []))) e).1.1.0 in
     omega (arith, room)
 few_behind t formula_node few e = let room = leb-false _ _ (none_holds (past_formula t ∷ []) e).0 in omega (arith, room)
 few_behind t (formula_opens n) few e = let room = leb-false _ _ (none_holds (past_formula t ∷ (past_nest n ∷ [])) e).0 in omega (arith, room)
@@ -174,7 +175,7 @@ module _ (features : List (List ℕ)) (most : ℕ) where
     unary_nested d true_word rest le w = by_parts most d 5 f.True _ rest (fold_true FormulaNesting formula_nesting_step) (omega arith) w.1
     unary_nested d false_word rest le w = by_parts most d 5 f.False _ rest (fold_false FormulaNesting formula_nesting_step) (omega arith) w.1
     unary_nested d (bracketed x) rest le w =
-        let a = iff_nested (d + 1) x (plain ∷ rest) w.0 w.1 in
+        let a = iff_nested (d + 1) x (other_token ∷ rest) w.0 w.1 in
         record { shallow = omega (arith, bracketed_depth 1 5 (nesting (value_iff features x)), a.shallow); behind = a.behind.1 }
 
   -- a formula nests no deeper than the roles of the text that was read
@@ -219,12 +220,12 @@ constraints_kept features t [] rest few w = record { marks = t.marks; each = ref
 constraints_kept features t (x ∷ xs) rest few w =
     let u : Tally = record t { marks = [] } in
     let n : ℕ = formula_node_count (value_iff features x) in
-    let b : Behind features u x (plain ∷ in_order roles_constraint xs rest) = behind_formula features u 0 x (plain ∷ in_order roles_constraint xs rest) few w.1 in
+    let b : Behind features u x (other_token ∷ in_order roles_constraint xs rest) = behind_formula features u 0 x (other_token ∷ in_order roles_constraint xs rest) few w.1 in
     let k : ConstraintsKept features (with_formula t b.marks n) xs rest = constraints_kept features (with_formula t b.marks n) xs rest b.few b.within.1 in
     let sum : n + sum_by formula_node_count (map (value_iff features) xs) ≡ sum_by formula_node_count (map (value_iff features) (x ∷ xs)) = sym (sum_by-cons formula_node_count (value_iff features x) (map (value_iff features) xs)) in
     record {
       marks = k.marks;
-      each = and_from _ _ (constraint_kept features u x (plain ∷ in_order roles_constraint xs rest) w.1) k.each;
+      each = and_from _ _ (constraint_kept features u x (other_token ∷ in_order roles_constraint xs rest) w.1) k.each;
       few = omega (arith, k.few, sum);
       within = subst (λ m. AreWithin (record t { marks = k.marks; formula_nodes = m }) rest) (omega (arith, sum)) k.within;
     }

@@ -1,10 +1,10 @@
 -- The laws of the machine: what it has read begins a formula; where it is stuck, no formula goes on; and where a name can stand.
 use Rattle.std.proofs.Common.{◌≡◌, ℕ, suc, Bool, true, false, List, [], ◌∷◌, ◌++◌, length, Option, Some, None, is_some, refl, sym, ◌∙◌, ap, arith}
-use Rattle.cfj_model.specs.declared.formula.Formula.{Formula}
-use Rattle.cfj_model.specs.declared.formula.Formula.TheVariants as f
+use Rattle.cfj_logic.specs.declared.formula.Formula.{Formula}
+use Rattle.cfj_logic.specs.declared.formula.Formula.TheVariants as f
 use Rattle.cfj_model.specs.FormulaGrammar.{roles_iff, value_iff, feature_named}
-use Rattle.cfj_model.specs.Roles.{Role, formula_node, plain}
-use Rattle.cfj_model.specs.Tokens.{Token, Id, TrueWord, FalseWord, OpenParen, CloseParen, Semicolon, Bang, Ampersand, Bar, Arrow, DoubleArrow}
+use Rattle.cfj_model.specs.Roles.{Role, formula_node, other_token}
+use Rattle.cfj_words.specs.Tokens.{Token, Id, TrueWord, FalseWord, OpenParen, CloseParen, Semicolon, Bang, Ampersand, Bar, Arrow, DoubleArrow}
 use Rattle.formula_reader.specs.declared.frame.Frame.{Frame}
 use Rattle.formula_reader.specs.declared.frame.Frame.TheVariants.{InAnd, InOr, InImplies, InIff, InNot, InBracket}
 use Rattle.formula_reader.specs.declared.mode.Mode.{Mode}
@@ -121,7 +121,7 @@ module _ (features : List (List ℕ)) where
   pub formula_read : (ts : List Token) (s : State) (rs : List Role) → run features ts start ≡ (Some s, rs) → is_done s ≡ true → IsFormula features ts rs s
   formula_read ts s rs h ends =
       let a = accepted_text features ts (ap (λ (p : Run). is_whole p.0) h ∙ ends) in
-      let same : (Some s, rs) ≡ (Some (done (value_iff features a.0)), roles_iff 0 a.0 (plain ∷ [])) = sym h ∙ ap (λ w. run features w start) a.1 ∙ formula_runs features a.0 in
+      let same : (Some s, rs) ≡ (Some (done (value_iff features a.0)), roles_iff 0 a.0 (other_token ∷ [])) = sym h ∙ ap (λ w. run features w start) a.1 ∙ formula_runs features a.0 in
       let reached : Some s ≡ Some (done (value_iff features a.0)) = ap (λ (p : Run). p.0) same in
       record { tree = a.0; spelled = a.1; in_roles = ap (λ (p : Run). p.1) same; valued = some_same s (done (value_iff features a.0)) reached }
 
@@ -135,8 +135,8 @@ module _ (features : List (List ℕ)) where
 
   closes : (fs : List Frame) (y : Formula) → Closes fs y
   unfolding run closing
-  closes [] y = record { value = y; others = plain ∷ []; goes = refl }
-  closes (InBracket ∷ fs) y = let c = closes fs y in record { value = c.value; others = plain ∷ c.others; goes = ap (with_role plain) c.goes }
+  closes [] y = record { value = y; others = other_token ∷ []; goes = refl }
+  closes (InBracket ∷ fs) y = let c = closes fs y in record { value = c.value; others = other_token ∷ c.others; goes = ap (with_role other_token) c.goes }
   closes (InAnd x ∷ fs) y = let c = closes fs (f.And x y) in record { value = c.value; others = c.others; goes = and_done features (closing fs) (closing_follows_unary fs) fs x y ∙ c.goes }
   closes (InOr x ∷ fs) y = let c = closes fs (f.Or x y) in record { value = c.value; others = c.others; goes = or_done features (closing fs) (behind_or (behind_implies (closing_follows_implies fs))) fs x y ∙ c.goes }
   closes (InImplies x ∷ fs) y = let c = closes fs (f.Implies x y) in record { value = c.value; others = c.others; goes = implies_done features (closing fs) (closing_follows_implies fs) fs x y ∙ c.goes }
@@ -179,7 +179,7 @@ module _ (features : List (List ℕ)) where
   pub begins_reads : (front : List Token) (rs : List Role) → BeginsFormula front rs → (s : State) × (run features front start ≡ (Some s, rs))
   begins_reads front rs b = go (run features front start) refl (sym (run_append front b.more start) ∙ ap (λ w. run features w start) (sym b.text) ∙ formula_runs features b.tree)
     where
-      go : (p : Run) → run features front start ≡ p → on_from features b.more p ≡ (Some (done (value_iff features b.tree)), roles_iff 0 b.tree (plain ∷ [])) → (s : State) × (run features front start ≡ (Some s, rs))
+      go : (p : Run) → run features front start ≡ p → on_from features b.more p ≡ (Some (done (value_iff features b.tree)), roles_iff 0 b.tree (other_token ∷ [])) → (s : State) × (run features front start ≡ (Some s, rs))
       go (None, qs) e whole =
           let o : None ≡ Some (done (value_iff features b.tree)) = ap (λ (p : Run). p.0) whole in
           absurd (let no : ⊥ = cc o in no)

@@ -1,23 +1,23 @@
 -- How tokens lead to the end of a formula, step by step, for what reads a formula inside a longer text.
 use Rattle.std.proofs.Common.{◌≡◌, ℕ, Bool, true, false, List, [], ◌∷◌, Option, Some, None, refl, sym, ◌∙◌, ap, subst}
-use Rattle.cfj_model.specs.declared.formula.Formula.{Formula}
+use Rattle.cfj_logic.specs.declared.formula.Formula.{Formula}
 use Rattle.cfj_model.specs.FormulaGrammar.{IffTree, spell_iff, roles_iff, value_iff}
-use Rattle.cfj_model.specs.Roles.{Role, plain}
-use Rattle.cfj_model.specs.Tokens.{Token, Semicolon}
+use Rattle.cfj_model.specs.Roles.{Role, other_token}
+use Rattle.cfj_words.specs.Tokens.{Token, Semicolon}
 use Rattle.formula_reader.specs.Machine.{State, start, done, step, role, is_done, Run, with_role, then_run, run}
 use Rattle.formula_reader.proofs.Complete.{formula_runs}
 use Rattle.formula_reader.proofs.Law.{some_same, done_stops, only_semicolon_ends}
 
 -- The tokens, the last of which is the formula's semicolon, lead from a state to the end of a formula.
 pub data Leads (features : List (List ℕ)) : List Token → State → List Role → Formula → Type 0 where
-  last : (s : State) (y : Formula) → step features s Semicolon ≡ Some (done y) → Leads features (Semicolon ∷ []) s (plain ∷ []) y
+  last : (s : State) (y : Formula) → step features s Semicolon ≡ Some (done y) → Leads features (Semicolon ∷ []) s (other_token ∷ []) y
   more : (t : Token) (ts : List Token) (s n : State) (rs : List Role) (y : Formula) → step features s t ≡ Some n → is_done n ≡ false → Leads features ts n rs y → Leads features (t ∷ ts) s (role s t ∷ rs) y
 
 module _ (features : List (List ℕ)) where
   -- so they run to it
   pub leads_run : (ts : List Token) (s : State) (rs : List Role) (y : Formula) → Leads features ts s rs y → run features ts s ≡ (Some (done y), rs)
   unfolding run
-  leads_run _ s _ y (last _ _ e) = ap (then_run (run features []) plain) e
+  leads_run _ s _ y (last _ _ e) = ap (then_run (run features []) other_token) e
   leads_run _ s _ y (more t ts _ n rs _ e goes l) = ap (then_run (run features ts) (role s t)) e ∙ ap (with_role (role s t)) (leads_run ts n rs y l)
 
   -- nothing is read behind the end
@@ -55,5 +55,5 @@ module _ (features : List (List ℕ)) where
               subst (λ qs. Leads features (t ∷ ts) s qs y) (ap (λ (p : Run). p.1) g) (more t ts s n (run features ts n).1 y e goes l)
 
   -- a formula's text leads from the start to its value
-  pub formula_leads : (x : IffTree) → Leads features (spell_iff x (Semicolon ∷ [])) start (roles_iff 0 x (plain ∷ [])) (value_iff features x)
-  formula_leads x = run_leads (spell_iff x (Semicolon ∷ [])) start (roles_iff 0 x (plain ∷ [])) (value_iff features x) refl (formula_runs features x)
+  pub formula_leads : (x : IffTree) → Leads features (spell_iff x (Semicolon ∷ [])) start (roles_iff 0 x (other_token ∷ [])) (value_iff features x)
+  formula_leads x = run_leads (spell_iff x (Semicolon ∷ [])) start (roles_iff 0 x (other_token ∷ [])) (value_iff features x) refl (formula_runs features x)

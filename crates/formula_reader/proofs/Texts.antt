@@ -1,8 +1,8 @@
 -- What follows the text of a formula, or its roles, stands behind them.
 use Rattle.std.proofs.Common.{◌≡◌, ℕ, ◌+◌, List, ◌∷◌, ◌++◌, refl, ◌∙◌, ap}
 use Rattle.cfj_model.specs.FormulaGrammar.{IffTree, one_implies, iff, ImpliesTree, one_or, implies, OrTree, one_and, or, AndTree, one_unary, and, UnaryTree, negated, named, true_word, false_word, bracketed, spell_iff, spell_implies, spell_or, spell_and, spell_unary, roles_iff, roles_implies, roles_or, roles_and, roles_unary}
-use Rattle.cfj_model.specs.Roles.{Role, formula_node, formula_opens, opens, plain}
-use Rattle.cfj_model.specs.Tokens.{Token, OpenParen, CloseParen, Bang, Ampersand, Bar, Arrow, DoubleArrow}
+use Rattle.cfj_model.specs.Roles.{Role, formula_node, formula_opens, opens, other_token}
+use Rattle.cfj_words.specs.Tokens.{Token, OpenParen, CloseParen, Bang, Ampersand, Bar, Arrow, DoubleArrow}
 
 mutual
   pub spell_iff_append : (x : IffTree) (us rest : List Token) → spell_iff x us ++ rest ≡ spell_iff x (us ++ rest)
@@ -50,4 +50,4 @@ mutual
   roles_unary_append d (named w) us rest = refl
   roles_unary_append d true_word us rest = refl
   roles_unary_append d false_word us rest = refl
-  roles_unary_append d (bracketed x) us rest = ap (λ w. opens (d + 1) ∷ w) (roles_iff_append (d + 1) x (plain ∷ us) rest)
+  roles_unary_append d (bracketed x) us rest = ap (λ w. opens (d + 1) ∷ w) (roles_iff_append (d + 1) x (other_token ∷ us) rest)

@@ -3,10 +3,10 @@ use Rattle.std.proofs.Common.{◌≡◌, ℕ, ◌+◌, ◌<◌, Bool, true, List
 use Rattle.std.proofs.lemmas.Bool.{and_from, lt-ltb}
 use Rattle.std.proofs.lemmas.List.Quantifiers.{position-Some}
 use Rattle.std.specs.Str.{bytes_eq}
-use Rattle.cfj_model.specs.Formulas.{is_over_step, is_over, formula_node_count_step, formula_node_count}
+use Rattle.cfj_logic.specs.Formulas.{is_over_step, is_over, formula_node_count_step, formula_node_count}
 use Rattle.cfj_model.specs.FormulaGrammar.{IffTree, one_implies, iff, ImpliesTree, one_or, implies, OrTree, one_and, or, AndTree, one_unary, and, UnaryTree, negated, named, true_word, false_word, bracketed, roles_iff, roles_implies, roles_or, roles_and, roles_unary, feature_at, feature_named, value_iff, value_implies, value_or, value_and, value_unary}
-use Rattle.cfj_model.specs.Roles.{Role, formula_name, formula_node, formula_opens, plain, Tally, counted, tallied}
-use Rattle.cfj_model.proofs.FormulaCases.{fold_true, fold_false, fold_feat, fold_not, fold_and, fold_or, fold_implies, fold_iff}
+use Rattle.cfj_model.specs.Roles.{Role, formula_name, formula_node, formula_opens, other_token, Tally, counted, tallied}
+use Rattle.cfj_logic.proofs.FormulaCases.{fold_true, fold_false, fold_feat, fold_not, fold_and, fold_or, fold_implies, fold_iff}
 
 -- ---- over the features
 
@@ -119,7 +119,7 @@ module _ (features : List (List ℕ)) where
     unary_adds t d (named w) rest = adds_as t 1 _ (formula_name w ∷ rest) rest (sym (name_count (position (λ g. bytes_eq g w) features))) (record { marks = t.marks; is = refl })
     unary_adds t d true_word rest = adds_one t _ rest (fold_true ℕ formula_node_count_step)
     unary_adds t d false_word rest = adds_one t _ rest (fold_false ℕ formula_node_count_step)
-    unary_adds t d (bracketed x) rest = let a = iff_adds (record t { marks = [] }) (d + 1) x (plain ∷ rest) in record { marks = a.marks; is = a.is }
+    unary_adds t d (bracketed x) rest = let a = iff_adds (record t { marks = [] }) (d + 1) x (other_token ∷ rest) in record { marks = a.marks; is = a.is }
 
   -- the nodes of a formula are counted
   pub nodes_added : (t : Tally) (d : ℕ) (x : IffTree) → (tallied t (roles_iff d x [])).formula_nodes ≡ t.formula_nodes + formula_node_count (value_iff features x)

@@ -1,16 +1,16 @@
 -- What holds of the machine, whatever the tokens.
 use Rattle.std.specs.Prelude.{◌≡◌, ℕ, ◌+◌, true, List, [], ◌∷◌, ◌++◌, length, Some, None, is_some}
 use Rattle.cfj_model.specs.FormulaGrammar.{IffTree, spell_iff, roles_iff, value_iff}
-use Rattle.cfj_model.specs.Formulas.{formula_node_count}
+use Rattle.cfj_logic.specs.Formulas.{formula_node_count}
 use Rattle.cfj_model.specs.ProductLines.{is_constraint}
-use Rattle.cfj_model.specs.Roles.{Role, plain, Tally, tallied, AreWithin}
-use Rattle.cfj_model.specs.Tokens.{Token, Id, Semicolon}
+use Rattle.cfj_model.specs.Roles.{Role, other_token, Tally, tallied, AreWithin}
+use Rattle.cfj_words.specs.Tokens.{Token, Id, Semicolon}
 use Rattle.formula_reader.specs.Machine.{State, start, done, step, takes_name, is_done, run}
 use Rattle.formula_reader.specs.Reading.{IsFormula, BeginsFormula}
 
 -- Each formula with its semicolon is read, in its roles, to what it stands for.
 abbrev pub EachIsRead : Type 0
-EachIsRead = (features : List (List ℕ)) (x : IffTree) → run features (spell_iff x (Semicolon ∷ [])) start ≡ (Some (done (value_iff features x)), roles_iff 0 x (plain ∷ []))
+EachIsRead = (features : List (List ℕ)) (x : IffTree) → run features (spell_iff x (Semicolon ∷ [])) start ≡ (Some (done (value_iff features x)), roles_iff 0 x (other_token ∷ []))
 
 -- What is read to its end is a formula with its semicolon.
 abbrev pub OnlyFormulasAreRead : Type 0

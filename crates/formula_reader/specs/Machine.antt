@@ -1,11 +1,11 @@
 -- The machine that reads one formula, a token at a time: how it goes on, and the role that it gives each token. What was read to
 -- the left of a connective waits in a frame until a token comes that binds no tighter.
 use Rattle.std.specs.Prelude.{ℕ, ◌+◌, Bool, true, false, nat_le, if◌then◌else◌, List, [], ◌∷◌, Option, Some, None}
-use Rattle.cfj_model.specs.declared.formula.Formula.{Formula}
-use Rattle.cfj_model.specs.declared.formula.Formula.TheVariants as f
+use Rattle.cfj_logic.specs.declared.formula.Formula.{Formula}
+use Rattle.cfj_logic.specs.declared.formula.Formula.TheVariants as f
 use Rattle.cfj_model.specs.FormulaGrammar.{feature_named}
-use Rattle.cfj_model.specs.Tokens.{Token, Id, TrueWord, FalseWord, OpenParen, CloseParen, Semicolon, Bang, Ampersand, Bar, Arrow, DoubleArrow}
-use Rattle.cfj_model.specs.Roles.{Role, formula_name, formula_node, formula_opens, opens, plain}
+use Rattle.cfj_words.specs.Tokens.{Token, Id, TrueWord, FalseWord, OpenParen, CloseParen, Semicolon, Bang, Ampersand, Bar, Arrow, DoubleArrow}
+use Rattle.cfj_model.specs.Roles.{Role, formula_name, formula_node, formula_opens, opens, other_token}
 use Rattle.formula_reader.specs.declared.frame.Frame.{Frame}
 use Rattle.formula_reader.specs.declared.frame.Frame.TheVariants.{InAnd, InOr, InImplies, InIff, InNot, InBracket}
 use Rattle.formula_reader.specs.declared.mode.Mode.{Mode}
@@ -130,7 +130,7 @@ role s Ampersand = formula_node
 role s Bar = formula_node
 role s Arrow = formula_opens (depth (still_open 3 s.frames) + 1)
 role s DoubleArrow = formula_node
-role s t = plain
+role s t = other_token
 
 abbrev pub takes_name_in : Mode → Bool
 takes_name_in Want = true

@@ -1,6 +1,6 @@
 -- What the code says of its parts, in the words of the machine.
 use Rattle.std.specs.Prelude.{◌≡◌, ℕ, Bool, true, false, not, nat_le, List, [], ◌∷◌, Option, Some, None}
-use Rattle.cfj_model.specs.Tokens.{Token}
+use Rattle.cfj_words.specs.Tokens.{Token}
 use Rattle.formula_reader.specs.declared.frame.Frame.{Frame}
 use Rattle.formula_reader.specs.declared.mode.Mode.{Mode}
 use Rattle.formula_reader.specs.Machine.{State, at, level, step}

@@ -1,3 +1,5 @@
+//! What is open to the left of the place that is read.
+
 ghost use Rattle.std.specs.Prelude.{◌≡◌, IfOk, nat_le};
 ghost use Rattle.formula_reader.specs.Machine as spec;
 
@@ -32,6 +34,15 @@ pub const OR_LEVEL: u8 = 3;
 
 /// The level of an `&`.
 pub const AND_LEVEL: u8 = 4;
+
+/// Two values in boxes of their own.
+fn both<T: Drop>(alloc: Global, left: T, right: T) -> Result<(Boxed<T>, Boxed<T>), AllocError>
+    ensures left { IfOk result (λ boxes. boxes.0 ≡ left) }
+    ensures right { IfOk result (λ boxes. boxes.1 ≡ right) }
+{
+    let left = Boxed::new(alloc, left)?;
+    Ok((left, Boxed::new(alloc, right)?))
+}
 
 impl Frame {
     /// How tightly it holds what is read behind it; nothing but its own end closes a bracket.
@@ -68,22 +79,22 @@ impl Frame {
     {
         match self {
             Frame::InBracket => Ok(right),
-            Frame::InIff(left) => Ok(Formula::Iff(
-                Boxed::new(alloc, left)?,
-                Boxed::new(alloc, right)?,
-            )),
-            Frame::InImplies(left) => Ok(Formula::Implies(
-                Boxed::new(alloc, left)?,
-                Boxed::new(alloc, right)?,
-            )),
-            Frame::InOr(left) => Ok(Formula::Or(
-                Boxed::new(alloc, left)?,
-                Boxed::new(alloc, right)?,
-            )),
-            Frame::InAnd(left) => Ok(Formula::And(
-                Boxed::new(alloc, left)?,
-                Boxed::new(alloc, right)?,
-            )),
+            Frame::InIff(left) => {
+                let (left, right) = both(alloc, left, right)?;
+                Ok(Formula::Iff(left, right))
+            }
+            Frame::InImplies(left) => {
+                let (left, right) = both(alloc, left, right)?;
+                Ok(Formula::Implies(left, right))
+            }
+            Frame::InOr(left) => {
+                let (left, right) = both(alloc, left, right)?;
+                Ok(Formula::Or(left, right))
+            }
+            Frame::InAnd(left) => {
+                let (left, right) = both(alloc, left, right)?;
+                Ok(Formula::And(left, right))
+            }
             Frame::InNot => Ok(Formula::Not(Boxed::new(alloc, right)?)),
         }
     }

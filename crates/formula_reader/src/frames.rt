@@ -1,3 +1,5 @@
+//! How deep the frames nest, and how they are closed.
+
 ghost use Rattle.std.specs.Prelude.{◌≡◌, ◌≤◌, ◌∷◌, true, IfOk, MatchOption, length, nat_le, reverse};
 ghost use Rattle.formula_reader.specs.Machine as spec;
 ghost use Rattle.formula_reader.specs.Views.{is_open};

@@ -1,3 +1,5 @@
+//! The laws of the reader.
+
 ghost use Rattle.formula_reader.specs.Laws.{EachIsRead, OnlyFormulasAreRead, FormulasGoOn, NoneGoesOnElsewhere, AnyNameWillDo, ConstraintsAreKept, NodesAreCounted};
 
 /// The law of the reader: it reads exactly the formulas, and stops at the first token with which none begins.

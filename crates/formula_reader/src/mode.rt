@@ -1,3 +1,5 @@
+//! What was read last.
+
 use cfj_model::Formula;
 
 /// What was read last.

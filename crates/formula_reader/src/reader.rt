@@ -1,3 +1,5 @@
+//! The reader of a formula.
+
 ghost use Rattle.std.specs.Prelude.{◌≡◌, ◌≤◌, IfOk, length};
 ghost use Rattle.fj_symbols.specs.Views.{role_seen, symbol_seen};
 ghost use Rattle.formula_reader.specs.Machine as spec;
@@ -23,7 +25,7 @@ pub struct FormulaReader {
 
 impl Model for FormulaReader {
     ghost use Rattle.std.specs.Coded.{codes};
-    ghost use Rattle.cfj_model.specs.contracts.formula.Formula as formula;
+    ghost use Rattle.cfj_logic.specs.contracts.formula.Formula as formula;
     ghost use Rattle.formula_reader.specs.Machine.{State, at};
 
     ghost Value = { State };
@@ -55,7 +57,7 @@ impl FormulaReader {
             Symbol::Bang => Role::FormulaOpens(depth_within(self.frames.items()) + 1),
             Symbol::OpenParen => Role::Opens(depth_within(self.frames.items()) + 1),
             Symbol::Arrow => Role::FormulaOpens(depth_behind_left(self.frames.items()) + 1),
-            _ => Role::Plain,
+            _ => Role::Other,
         }
     }
 

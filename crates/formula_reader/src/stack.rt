@@ -1,3 +1,5 @@
+//! Stacks.
+
 ghost use Rattle.std.specs.Prelude.{◌≡◌, [], ◌∷◌, OnOk, MatchOption, reverse, slice_get};
 ghost use Rattle.std.specs.Option.{option_copied};
 

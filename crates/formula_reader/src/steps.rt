@@ -1,7 +1,9 @@
+//! What each token does.
+
 ghost use Rattle.std.specs.Prelude.{◌≡◌, ◌≤◌, IfOk, length};
 ghost use Rattle.fj_symbols.specs.Views.{symbol_seen};
 ghost use Rattle.cfj_model.specs.FormulaGrammar as grammar;
-ghost use Rattle.cfj_model.specs.Tokens.{CloseParen, Semicolon};
+ghost use Rattle.cfj_words.specs.Tokens.{CloseParen, Semicolon};
 ghost use Rattle.formula_reader.specs.Machine as spec;
 ghost use Rattle.formula_reader.specs.Views.{reached};
 
@@ -12,6 +14,7 @@ use crate::stack::Stack;
 use cfj_model::Formula;
 use fj_symbols::{Features, Symbol};
 use std::alloc::{AllocError, Global};
+use std::mem;
 
 /// The feature of this name, or a formula in its place.
 fn feature_named(features: &Features<'_>, name: &str) -> Formula
@@ -100,7 +103,10 @@ fn after(
         }
         Symbol::CloseParen => close(alloc, frames, operand),
         Symbol::Semicolon => end(alloc, frames, operand),
-        _ => Ok(None),
+        _ => {
+            mem::drop(operand);
+            Ok(None)
+        }
     }
 }
 
@@ -115,7 +121,10 @@ fn close(
     let whole = reduce(alloc, frames, operand, IFF_LEVEL)?;
     match frames.pop() {
         Some(Frame::InBracket) => Ok(Some(Mode::After(whole))),
-        _ => Ok(None),
+        other => {
+            mem::drop(other);
+            Ok(None)
+        }
     }
 }
 
@@ -130,6 +139,9 @@ fn end(
     let whole = reduce(alloc, frames, operand, IFF_LEVEL)?;
     match frames.pop() {
         None => Ok(Some(Mode::Done(whole))),
-        Some(_) => Ok(None),
+        Some(frame) => {
+            mem::drop(frame);
+            Ok(None)
+        }
     }
 }

@@ -6,10 +6,10 @@ use Rattle.std.specs.Option.{option_copied}
 use Rattle.std.proofs.lemmas.List.{append_assoc, append-nil, map-append}
 use Rattle.std.proofs.lemmas.List.Elements.{filter-append}
 use Rattle.cfj_model.specs.LookUps.{Table, ancestors, field_called, first_some}
-use Rattle.cfj_model.specs.Judging.{Breaks, Judged, JudgedExpr, Pair, Verdict, environment_of, first_breaking, judged, judged_at, judged_class, judged_expr, pair_of}
+use Rattle.cfj_model.specs.Judging.{Breaks, RuleAt, JudgedExpr, Pair, Ruling, environment_of, first_breaking, judged, judged_at, judged_class, judged_expr, pair_of}
 use Rattle.cfj_model.specs.ProductLines.{ProductLine, IsProject}
 use Rattle.cfj_model.specs.Typing.{IsWellTyped}
-use Rattle.cfj_model.specs.UnitClauses.{Has}
+use Rattle.cfj_words.specs.Lists.{Has}
 use Rattle.cfj_model.specs.declared.class.Class.{Class}
 use Rattle.cfj_model.specs.declared.class.Field.{Field}
 use Rattle.cfj_model.specs.declared.class.Method.{Method}
@@ -26,27 +26,23 @@ use Rattle.plain_fj.proofs.Law.{well_typed_project}
 
 -- ---- lists of what is judged
 
-pub broken_append : (js ks : List Judged) → broken (js ++ ks) ≡ broken js ++ broken ks
+pub broken_append : (js ks : List RuleAt) → broken (js ++ ks) ≡ broken js ++ broken ks
 broken_append js ks =
-    ap (map pair_of) (filter-append (λ (j : Judged). j.breaks) js ks) ∙ map-append pair_of (filter (λ (j : Judged). j.breaks) js) (filter (λ (j : Judged). j.breaks) ks)
+    ap (map pair_of) (filter-append (λ (j : RuleAt). j.breaks) js ks) ∙ map-append pair_of (filter (λ (j : RuleAt). j.breaks) js) (filter (λ (j : RuleAt). j.breaks) ks)
 
 -- what is added first, and then
-pub adds_then : (a b c : List Break) (js ks : List Judged) → Adds a b js → Adds b c ks → Adds a c (js ++ ks)
+pub adds_then : (a b c : List Break) (js ks : List RuleAt) → Adds a b js → Adds b c ks → Adds a c (js ++ ks)
 adds_then a b c js ks first next =
     next ∙ ap (λ z. z ++ broken ks) first ∙ append_assoc (map told a) (broken js) (broken ks) ∙ ap (λ z. map told a ++ z) (sym (broken_append js ks))
 
 pub adds_none : (a : List Break) → Adds a a []
 adds_none a = sym (append-nil (map told a))
 
-pub adds_as : (a b : List Break) (js ks : List Judged) → broken js ≡ broken ks → Adds a b js → Adds a b ks
+pub adds_as : (a b : List Break) (js ks : List RuleAt) → broken js ≡ broken ks → Adds a b js → Adds a b ks
 adds_as a b js ks same adds = adds ∙ ap (λ z. map told a ++ z) same
 
--- one break, where the rule breaks
-pub adds_one : (a b : List Break) (x : Break) (js : List Judged) → b ≡ a ++ x ∷ [] → broken js ≡ told x ∷ [] → Adds a b js
-adds_one a b x js pushed is = ap (map told) pushed ∙ map-append told a (x ∷ []) ∙ ap (λ z. map told a ++ z) (sym is)
-
 -- what is added where there is memory for it
-pub then_added : {X E : Type 0} (a b c : List Break) (js ks : List Judged) (r : Result X E) → Adds a b js → OnOk r (Adds b c ks) → OnOk r (Adds a c (js ++ ks))
+pub then_added : {X E : Type 0} (a b c : List Break) (js ks : List RuleAt) (r : Result X E) → Adds a b js → OnOk r (Adds b c ks) → OnOk r (Adds a c (js ++ ks))
 then_added a b c js ks (Ok x) first next = adds_then a b c js ks first next
 then_added a b c js ks (Err e) first next = tt
 
@@ -58,16 +54,16 @@ pub noted_where : {X E : Type 0} (s : Site) (r : Rule) (c d : Bool) (a b : List 
 noted_where s r c d a b o same adds = subst (λ z. OnOk o (Adds a b (judged_at s ((r, z) ∷ [])))) same adds
 
 -- three rules at a site
-pub three_noted : (s : Site) (u v w : Verdict) (a b c d : List Break) → Adds a b (judged_at s (u ∷ [])) → Adds b c (judged_at s (v ∷ [])) → Adds c d (judged_at s (w ∷ [])) → Adds a d (judged_at s (u ∷ (v ∷ (w ∷ []))))
+pub three_noted : (s : Site) (u v w : Ruling) (a b c d : List Break) → Adds a b (judged_at s (u ∷ [])) → Adds b c (judged_at s (v ∷ [])) → Adds c d (judged_at s (w ∷ [])) → Adds a d (judged_at s (u ∷ (v ∷ (w ∷ []))))
 three_noted s u v w a b c d first second third =
     adds_then a b d (judged_at s (u ∷ [])) (judged_at s (v ∷ (w ∷ []))) first (adds_then b c d (judged_at s (v ∷ [])) (judged_at s (w ∷ [])) second third)
 
 -- a list of breaks
-adds_all : (a b xs : List Break) (js : List Judged) → b ≡ a ++ xs → Adds [] xs js → Adds a b js
+adds_all : (a b xs : List Break) (js : List RuleAt) → b ≡ a ++ xs → Adds [] xs js → Adds a b js
 adds_all a b xs js appended is = ap (map told) appended ∙ map-append told a xs ∙ ap (λ z. map told a ++ z) is
 
 -- a list of breaks behind others
-pub adds_behind : {X E : Type 0} (a b c xs : List Break) (js ks : List Judged) (r : Result X E) → c ≡ (if is_ok r then b ++ xs else b) → Adds a b js → Adds [] xs ks → OnOk r (Adds a c (js ++ ks))
+pub adds_behind : {X E : Type 0} (a b c xs : List Break) (js ks : List RuleAt) (r : Result X E) → c ≡ (if is_ok r then b ++ xs else b) → Adds a b js → Adds [] xs ks → OnOk r (Adds a c (js ++ ks))
 adds_behind a b c xs js ks (Ok x) appended first next = adds_then a b c js ks first (adds_all b c xs ks appended next)
 adds_behind a b c xs js ks (Err e) appended first next = tt
 
@@ -85,7 +81,7 @@ drop_get {A = A} xs i x at = go xs i at ∙ ap (λ n. x ∷ drop n xs) (sym (add
 pub drop_item : {A : Type 0} (xs ys : List A) (i : ℕ) (x : A) → ys ≡ xs → i < length ys → x ≡ slice_index_or ys i x → drop i xs ≡ x ∷ drop (i + 1) xs
 drop_item xs ys i x read lt at = ap (drop i) (sym read) ∙ drop_at ys i x lt at ∙ ap (λ zs. x ∷ drop (i + 1) zs) read
 
-module _ {A : Type 0} (of : A → List Judged) (xs : List A) (i : ℕ) (a b : List Break) where
+module _ {A : Type 0} (of : A → List RuleAt) (xs : List A) (i : ℕ) (a b : List Break) where
   -- with what is judged of the items from the place on, all is added
   abbrev pub IsAddedUpTo : Type 0
   IsAddedUpTo = map told b ++ broken (flat_map of (drop i xs)) ≡ map told a ++ broken (flat_map of xs)
@@ -96,7 +92,7 @@ module _ {A : Type 0} (of : A → List Judged) (xs : List A) (i : ℕ) (a b : Li
       ap (λ z. z ++ broken rest) adds ∙ append_assoc (map told b) (broken (of x)) (broken rest) ∙ ap (λ z. map told b ++ z) (sym (broken_append (of x) rest))
       ∙ ap (λ z. map told b ++ broken (flat_map of z)) (sym at) ∙ so_far
     where
-      rest : List Judged
+      rest : List RuleAt
       rest = flat_map of (drop (i + 1) xs)
 
   pub added_all : IsAddedUpTo → length xs ≤ i → Adds a b (flat_map of xs)
@@ -154,26 +150,26 @@ all_judged p = refl
 -- a rule breaks at a site exactly where the pair is among those that break
 pub has_broken : (p : Table) (found : List Pair) → found ≡ breaking p → (s : Site) (r : Rule) → Breaks p s r ↔ Has found (s, r)
 has_broken p found is s r = (
-  λ h. subst (λ z. Has z (s, r)) (sym is) (has_map pair_of (filter (λ (j : Judged). j.breaks) (judged p)) (record { site = s; rule = r; breaks = true }) (has_filter (λ (j : Judged). j.breaks) (judged p) (record { site = s; rule = r; breaks = true }) h refl)),
-  λ h. back (unmapped (filter (λ (j : Judged). j.breaks) (judged p)) (subst (λ z. Has z (s, r)) is h)),
+  λ h. subst (λ z. Has z (s, r)) (sym is) (has_map pair_of (filter (λ (j : RuleAt). j.breaks) (judged p)) (record { site = s; rule = r; breaks = true }) (has_filter (λ (j : RuleAt). j.breaks) (judged p) (record { site = s; rule = r; breaks = true }) h refl)),
+  λ h. back (unmapped (filter (λ (j : RuleAt). j.breaks) (judged p)) (subst (λ z. Has z (s, r)) is h)),
 )
   where
-    IsPair : List Judged → Type 0
-    IsPair js = (j : Judged) × Has js j × (pair_of j ≡ (s, r))
+    IsPair : List RuleAt → Type 0
+    IsPair js = (j : RuleAt) × Has js j × (pair_of j ≡ (s, r))
 
-    unmapped : (js : List Judged) → Has (map pair_of js) (s, r) → IsPair js
+    unmapped : (js : List RuleAt) → Has (map pair_of js) (s, r) → IsPair js
     unmapped [] h = absurd (has_none (s, r) h)
     unmapped (j ∷ js) (zero, e) = (j, (0, refl), cc e)
     unmapped (j ∷ js) (suc k, e) = let rest = unmapped js (k, e) in (rest.0, has_rest j js rest.0 rest.1, rest.2)
 
-    back : IsPair (filter (λ (j : Judged). j.breaks) (judged p)) → Breaks p s r
+    back : IsPair (filter (λ (j : RuleAt). j.breaks) (judged p)) → Breaks p s r
     back (j, h, e) =
-        let kept = filter_has (λ (j : Judged). j.breaks) (judged p) j h in
+        let kept = filter_has (λ (j : RuleAt). j.breaks) (judged p) j h in
         subst (Has (judged p)) (same j kept.1 e) kept.0
       where
-        same : (j : Judged) → j.breaks ≡ true → pair_of j ≡ (s, r) → j ≡ record { site = s; rule = r; breaks = true }
+        same : (j : RuleAt) → j.breaks ≡ true → pair_of j ≡ (s, r) → j ≡ record { site = s; rule = r; breaks = true }
         same j b e =
-            ap₂ (λ (q : Pair) (b : Bool). let w : Judged = record { site = q.0; rule = q.1; breaks = b } in w) e b
+            ap₂ (λ (q : Pair) (b : Bool). let w : RuleAt = record { site = q.0; rule = q.1; breaks = b } in w) e b
 
 -- one more pair
 pub told_more : (xs : List Break) (i : ℕ) (x : Break) (ps qs : List Pair) (q : Pair) → ps ≡ map told (take i xs) → i < length xs → x ≡ slice_index_or xs i x → q ≡ told x → qs ≡ ps ++ q ∷ []
@@ -181,13 +177,13 @@ pub told_more : (xs : List Break) (i : ℕ) (x : Break) (ps qs : List Pair) (q :
 told_more xs i x ps qs q so_far lt at is pushed =
     pushed ∙ ap₂ (λ z w. z ++ w ∷ []) so_far is ∙ sym (map-append told (take i xs) (x ∷ [])) ∙ ap (map told) (sym (take_more xs i x lt at))
 
-first_kept : (js : List Judged) → slice_get (broken js) 0 ≡ option_map pair_of (find (λ (j : Judged). j.breaks) js)
+first_kept : (js : List RuleAt) → slice_get (broken js) 0 ≡ option_map pair_of (find (λ (j : RuleAt). j.breaks) js)
 first_kept [] = refl
 first_kept (j ∷ js) = go j.breaks (first_kept js)
   where
-    go : (b : Bool) → slice_get (broken js) 0 ≡ option_map pair_of (find (λ (j : Judged). j.breaks) js)
-        → slice_get (map pair_of (cond b (j ∷ filter (λ (j : Judged). j.breaks) js) (filter (λ (j : Judged). j.breaks) js))) 0
-        ≡ option_map pair_of (cond b (Some j) (find (λ (j : Judged). j.breaks) js))
+    go : (b : Bool) → slice_get (broken js) 0 ≡ option_map pair_of (find (λ (j : RuleAt). j.breaks) js)
+        → slice_get (map pair_of (cond b (j ∷ filter (λ (j : RuleAt). j.breaks) js) (filter (λ (j : RuleAt). j.breaks) js))) 0
+        ≡ option_map pair_of (cond b (Some j) (find (λ (j : RuleAt). j.breaks) js))
     go true ih = refl
     go false ih = ih
 

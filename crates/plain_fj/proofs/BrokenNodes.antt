@@ -1,12 +1,12 @@
 -- The pairs that break among an expression's nodes, by its parts.
-use Rattle.std.proofs.Common.{◌≡◌, ℕ, Bool, true, false, not, ◌&&◌, cond, List, [], ◌∷◌, ◌++◌, map, Option, None, Some, is_some, option_map, refl, sym, ◌∙◌, ap, ap₂}
+use Rattle.std.proofs.Common.{◌≡◌, ℕ, nat_lt, Bool, true, false, not, ◌&&◌, cond, List, [], ◌∷◌, ◌++◌, map, Option, None, Some, is_some, option_map, refl, sym, ◌∙◌, ap, ap₂}
 use Rattle.std.specs.List.{filter, flat_map}
-use Rattle.std.proofs.lemmas.Bool.{and_parts, not-true}
+use Rattle.std.proofs.lemmas.Bool.{and_from, and_parts, not-true}
 use Rattle.std.proofs.lemmas.Grind.{flat_map-append}
 use Rattle.std.proofs.lemmas.List.{append-nil, map-append}
 use Rattle.std.proofs.lemmas.List.Folds.{list_all-append}
 use Rattle.cfj_model.specs.LookUps.{Table, is_known}
-use Rattle.cfj_model.specs.Judging.{Judged, Pair, Verdict, JudgedExpr, judged_at, judged_step, judged_arg, pair_of, types_of, Fit, fit_of, no_misfits, argument_rules, variable_type, accessed, called, field_types, is_unrelated}
+use Rattle.cfj_model.specs.Judging.{RuleAt, Pair, Ruling, JudgedExpr, judged_at, judged_step, judged_arg, pair_of, types_of, Fit, fit_of, no_misfits, argument_rules, variable_type, accessed, called, field_types, is_unrelated, rank, with_ruling}
 use Rattle.cfj_model.specs.Typing.{Environment, param_types}
 use Rattle.cfj_model.specs.declared.class.Method.{Method}
 use Rattle.cfj_model.specs.declared.expr.Arg.{Arg}
@@ -27,20 +27,63 @@ use Rattle.plain_fj.proofs.Broken.{broken_append}
 
 -- ---- sites
 
-site_append : (s : Site) (vs ws : List Verdict) → broken (judged_at s (vs ++ ws)) ≡ broken (judged_at s vs) ++ broken (judged_at s ws)
+site_append : (s : Site) (vs ws : List Ruling) → broken (judged_at s (vs ++ ws)) ≡ broken (judged_at s vs) ++ broken (judged_at s ws)
 site_append s vs ws =
-    ap broken (map-append (λ (v : Verdict). let j : Judged = record { site = s; rule = v.0; breaks = v.1 } in j) vs ws) ∙ broken_append (judged_at s vs) (judged_at s ws)
+    ap broken (map-append (λ (v : Ruling). let j : RuleAt = record { site = s; rule = v.0; breaks = v.1 } in j) vs ws) ∙ broken_append (judged_at s vs) (judged_at s ws)
 
-quiet_site : (s : Site) (vs : List Verdict) → none_breaks vs ≡ true → broken (judged_at s vs) ≡ []
+quiet_site : (s : Site) (vs : List Ruling) → none_breaks vs ≡ true → broken (judged_at s vs) ≡ []
 quiet_site s [] h = refl
 quiet_site s (v ∷ vs) h =
     let parts = and_parts (not v.1) (none_breaks vs) h in
     go v.1 (not-true v.1 parts.0) (quiet_site s vs parts.1)
   where
     go : (c : Bool) → c ≡ false → broken (judged_at s vs) ≡ []
-        → map pair_of (cond c (record { site = s; rule = v.0; breaks = v.1 } ∷ filter (λ (j : Judged). j.breaks) (judged_at s vs)) (filter (λ (j : Judged). j.breaks) (judged_at s vs))) ≡ []
+        → map pair_of (cond c (record { site = s; rule = v.0; breaks = v.1 } ∷ filter (λ (j : RuleAt). j.breaks) (judged_at s vs)) (filter (λ (j : RuleAt). j.breaks) (judged_at s vs))) ≡ []
     go true n ih = absurd (not_true n)
     go false n ih = ih
+
+-- Of a node's own rules and those that are given behind them.
+own_behind : (s : Site) (own more : List Ruling) → none_breaks more ≡ true → broken (judged_at s (own ++ more)) ≡ broken (judged_at s (own ++ []))
+own_behind s own more none =
+    site_append s own more ∙ ap (λ z. broken (judged_at s own) ++ z) (quiet_site s more none) ∙ sym (site_append s own [])
+
+given_behind : (s : Site) (own more : List Ruling) → none_breaks (own ++ []) ≡ true → broken (judged_at s (own ++ more)) ≡ broken (judged_at s more)
+given_behind s own more none =
+    site_append s own more
+    ∙ ap (λ z. z ++ broken (judged_at s more)) (quiet_site s own (and_parts (none_breaks own) true (sym (list_all-append (λ (v : Ruling). not v.1) own []) ∙ none)).0)
+
+-- One more ruling among those that are given, where none of these breaks, or where it doesn't.
+one_breaks : (s : Site) (v : Ruling) (more : List Ruling) → none_breaks more ≡ true → broken (judged_at s (with_ruling v more)) ≡ broken (judged_at s (v ∷ []))
+one_breaks s v [] none = refl
+one_breaks s v (w ∷ ws) none =
+    let parts = and_parts (not w.1) (none_breaks ws) none in
+    go (nat_lt (rank w.0) (rank v.0)) (quiet_site s (w ∷ []) (and_from (not w.1) true parts.0 refl)) (one_breaks s v ws parts.1)
+  where
+    go : (c : Bool) → broken (judged_at s (w ∷ [])) ≡ [] → broken (judged_at s (with_ruling v ws)) ≡ broken (judged_at s (v ∷ []))
+        → broken (judged_at s (cond c (w ∷ with_ruling v ws) (v ∷ (w ∷ ws)))) ≡ broken (judged_at s (v ∷ []))
+    go true quiet ih = site_append s (w ∷ []) (with_ruling v ws) ∙ ap (λ z. z ++ broken (judged_at s (with_ruling v ws))) quiet ∙ ih
+    go false quiet ih =
+        site_append s (v ∷ []) (w ∷ ws) ∙ ap (λ z. broken (judged_at s (v ∷ [])) ++ z) (quiet_site s (w ∷ ws) none) ∙ append-nil (broken (judged_at s (v ∷ [])))
+
+others_break : (s : Site) (v : Ruling) (more : List Ruling) → none_breaks (v ∷ []) ≡ true → broken (judged_at s (with_ruling v more)) ≡ broken (judged_at s more)
+others_break s v [] none = quiet_site s (v ∷ []) none
+others_break s v (w ∷ ws) none = go (nat_lt (rank w.0) (rank v.0)) (others_break s v ws none)
+  where
+    go : (c : Bool) → broken (judged_at s (with_ruling v ws)) ≡ broken (judged_at s ws)
+        → broken (judged_at s (cond c (w ∷ with_ruling v ws) (v ∷ (w ∷ ws)))) ≡ broken (judged_at s (w ∷ ws))
+    go true ih = site_append s (w ∷ []) (with_ruling v ws) ∙ ap (λ z. broken (judged_at s (w ∷ [])) ++ z) ih ∙ sym (site_append s (w ∷ []) ws)
+    go false ih = site_append s (v ∷ []) (w ∷ ws) ∙ ap (λ z. z ++ broken (judged_at s (w ∷ ws))) (quiet_site s (v ∷ []) none)
+
+-- Of two own rules, the second among those that are given.
+own_among : (s : Site) (v w : Ruling) (more : List Ruling) → none_breaks more ≡ true → broken (judged_at s (v ∷ with_ruling w more)) ≡ broken (judged_at s (v ∷ (w ∷ [])))
+own_among s v w more none =
+    site_append s (v ∷ []) (with_ruling w more) ∙ ap (λ z. broken (judged_at s (v ∷ [])) ++ z) (one_breaks s w more none) ∙ sym (site_append s (v ∷ []) (w ∷ []))
+
+given_among : (s : Site) (v w : Ruling) (more : List Ruling) → none_breaks (v ∷ (w ∷ [])) ≡ true → broken (judged_at s (v ∷ with_ruling w more)) ≡ broken (judged_at s more)
+given_among s v w more none =
+    let parts = and_parts (not v.1) (none_breaks (w ∷ [])) none in
+    site_append s (v ∷ []) (with_ruling w more)
+    ∙ ap₂ (λ y z. y ++ z) (quiet_site s (v ∷ []) (and_from (not v.1) true parts.0 refl)) (others_break s w more parts.1)
 
 -- the types of the first and of the rest, where all have types
 pub rest_typed : (o : Option (List ℕ)) (os : List (Option (List ℕ))) (us : List (List ℕ)) → types_of (o ∷ os) ≡ Some us
@@ -62,28 +105,28 @@ module _ (b : Body) where
   at n = site.Node b.class.now b.method.now b.alt n
 
   -- the pairs that break at these nodes
-  abbrev pub pairs : List (ℕ × List Verdict) → List Pair
+  abbrev pub pairs : List (ℕ × List Ruling) → List Pair
   pairs ns = broken (at_nodes b ns)
 
   -- one rule at a node
-  abbrev pub one : ℕ → Rule → Bool → List (ℕ × List Verdict)
+  abbrev pub one : ℕ → Rule → Bool → List (ℕ × List Ruling)
   one slot rule c = (slot, (rule, c) ∷ []) ∷ []
 
   -- what is judged at the nodes of arguments but by the node round them
-  abbrev pub own_nodes : List Arg → List Judged
+  abbrev pub own_nodes : List Arg → List RuleAt
   own_nodes args = flat_map (λ (a : Arg). nodes_in b a.expr) args
 
-  pairs_append : (xs ys : List (ℕ × List Verdict)) → pairs (xs ++ ys) ≡ pairs xs ++ pairs ys
-  pairs_append xs ys = ap broken (flat_map-append (λ (n : ℕ × List Verdict). judged_at (at n.0) n.1) xs ys) ∙ broken_append (at_nodes b xs) (at_nodes b ys)
+  pairs_append : (xs ys : List (ℕ × List Ruling)) → pairs (xs ++ ys) ≡ pairs xs ++ pairs ys
+  pairs_append xs ys = ap broken (flat_map-append (λ (n : ℕ × List Ruling). judged_at (at n.0) n.1) xs ys) ∙ broken_append (at_nodes b xs) (at_nodes b ys)
 
-  quiet_nodes : (ns : List (ℕ × List Verdict)) → nodes_clear ns ≡ true → pairs ns ≡ []
+  quiet_nodes : (ns : List (ℕ × List Ruling)) → nodes_clear ns ≡ true → pairs ns ≡ []
   quiet_nodes [] h = refl
   quiet_nodes ((slot, vs) ∷ ns) h =
       let parts = and_parts (none_breaks vs) (nodes_clear ns) h in
       broken_append (judged_at (at slot) vs) (at_nodes b ns) ∙ ap₂ (λ x y. x ++ y) (quiet_site (at slot) vs parts.0) (quiet_nodes ns parts.1)
 
   -- a node with two rules
-  two_rules : (slot : ℕ) (r0 r1 : Rule) (c0 c1 : Bool) (ns : List (ℕ × List Verdict))
+  two_rules : (slot : ℕ) (r0 r1 : Rule) (c0 c1 : Bool) (ns : List (ℕ × List Ruling))
       → pairs ((slot, (r0, c0) ∷ ((r1, c1) ∷ [])) ∷ ns) ≡ pairs (one slot r0 c0) ++ (pairs (one slot r1 c1) ++ pairs ns)
   two_rules slot r0 r1 c0 c1 ns =
       broken_append (judged_at (at slot) ((r0, c0) ∷ [])) (judged_at (at slot) ((r1, c1) ∷ []) ++ at_nodes b ns)
@@ -91,75 +134,95 @@ module _ (b : Body) where
 
   -- ---- the root
 
-  -- the nodes before the root and behind it, and the root's own rules
+  -- The nodes before the root and behind it, and the root's rules, by those that the node round it judges there. Of these and of its
+  -- own the ones that break are those of either, where none of the other breaks.
   record HasRoot (x : Expr) : Type 0 where
-    before : List (ℕ × List Verdict)
-    own : List Verdict
-    behind : List (ℕ × List Verdict)
-    is : (more : List Verdict) → (judged_in b x).rules more ≡ before ++ (slot_of x, own ++ more) ∷ behind
+    before : List (ℕ × List Ruling)
+    root : List Ruling → List Ruling
+    behind : List (ℕ × List Ruling)
+    is : (more : List Ruling) → (judged_in b x).rules more ≡ before ++ (slot_of x, root more) ∷ behind
+    own : (more : List Ruling) → none_breaks more ≡ true → broken (judged_at (at (slot_of x)) (root more)) ≡ broken (judged_at (at (slot_of x)) (root []))
+    given : (more : List Ruling) → none_breaks (root []) ≡ true → broken (judged_at (at (slot_of x)) (root more)) ≡ broken (judged_at (at (slot_of x)) more)
 
   rooted : (x : Expr) → HasRoot x
   rooted = by_cases HasRoot (record {
-    var_case = λ slot x. record {
-      before = [];
-      own = (E1, not (is_some (variable_type g x))) ∷ [];
-      behind = [];
-      is = λ more. ap (λ (j : JudgedExpr). j.rules more) (fold_var JudgedExpr JudgedExpr (judged_step p g) judged_arg slot x)
-          ∙ ap (λ s. (s, (E1, not (is_some (variable_type g x))) ∷ more) ∷ []) (sym (fold_var ℕ ℕ slot_step (λ a. a.expr) slot x));
-    };
-    get_case = λ slot on ih f. record {
-      before = (judged_in b on).rules [];
-      own = (E2, is_some (type_in on) && not (is_some (accessed p (type_in on) f))) ∷ [];
-      behind = [];
-      is = λ more. ap (λ (j : JudgedExpr). j.rules more) (fold_get JudgedExpr JudgedExpr (judged_step p g) judged_arg slot on f)
-          ∙ ap (λ s. (judged_in b on).rules [] ++ (s, (E2, is_some (type_in on) && not (is_some (accessed p (type_in on) f))) ∷ more) ∷ [])
-          (sym (fold_get ℕ ℕ slot_step (λ a. a.expr) slot on f));
-    };
-    call_case = λ slot on ih m ys.
-        let ts : Option (List (List ℕ)) = arg_types p g (args_of HasRoot ys) in
-        let d : Option Method = called p (type_in on) ts m in
-        let f : Fit = fit_of p (judged_args p g (args_of HasRoot ys)) ts (option_map (λ (d : Method). param_types d.params) d) in
-        record {
-          before = (judged_in b on).rules [];
-          own = (E3, is_some (type_in on) && is_some ts && not (is_some d)) ∷ ((E4, f.differs) ∷ []);
-          behind = argument_rules E5 (judged_args p g (args_of HasRoot ys)) f.misfits;
-          is = λ more. ap (λ (j : JudgedExpr). j.rules more) (fold_call JudgedExpr JudgedExpr (judged_step p g) judged_arg slot on m (args_of HasRoot ys))
-              ∙ ap (λ s. (judged_in b on).rules [] ++ (s, (E3, is_some (type_in on) && is_some ts && not (is_some d)) ∷ ((E4, f.differs) ∷ more)) ∷ argument_rules E5 (judged_args p g (args_of HasRoot ys)) f.misfits)
-              (sym (fold_call ℕ ℕ slot_step (λ a. a.expr) slot on m (args_of HasRoot ys)));
-        };
-    new_case = λ slot c ys.
-        let ts : Option (List (List ℕ)) = arg_types p g (args_of HasRoot ys) in
-        let f : Fit = fit_of p (judged_args p g (args_of HasRoot ys)) ts (field_types p c) in
+    var_case = λ slot x.
+        let own : List Ruling = (E1, not (is_some (variable_type g x))) ∷ [] in
         record {
           before = [];
-          own = (K1, not (is_known p c)) ∷ ((E6, f.differs) ∷ []);
-          behind = argument_rules E7 (judged_args p g (args_of HasRoot ys)) f.misfits;
-          is = λ more. ap (λ (j : JudgedExpr). j.rules more) (fold_new JudgedExpr JudgedExpr (judged_step p g) judged_arg slot c (args_of HasRoot ys))
-              ∙ ap (λ s. (s, (K1, not (is_known p c)) ∷ ((E6, f.differs) ∷ more)) ∷ argument_rules E7 (judged_args p g (args_of HasRoot ys)) f.misfits)
-              (sym (fold_new ℕ ℕ slot_step (λ a. a.expr) slot c (args_of HasRoot ys)));
+          root = λ more. own ++ more;
+          behind = [];
+          is = λ more. ap (λ (j : JudgedExpr). j.rules more) (fold_var JudgedExpr JudgedExpr (judged_step p g) judged_arg slot x)
+              ∙ ap (λ s. (s, own ++ more) ∷ []) (sym (fold_var ℕ ℕ slot_step (λ a. a.expr) slot x));
+          own = λ more none. own_behind (at (slot_of (e.Var slot x))) own more none;
+          given = λ more none. given_behind (at (slot_of (e.Var slot x))) own more none;
         };
-    cast_case = λ slot c on ih. record {
-      before = [];
-      own = (K1, not (is_known p c)) ∷ ((E8, is_unrelated p (type_in on) c) ∷ []);
-      behind = (judged_in b on).rules [];
-      is = λ more. ap (λ (j : JudgedExpr). j.rules more) (fold_cast JudgedExpr JudgedExpr (judged_step p g) judged_arg slot c on)
-          ∙ ap (λ s. (s, (K1, not (is_known p c)) ∷ ((E8, is_unrelated p (type_in on) c) ∷ more)) ∷ (judged_in b on).rules [])
-          (sym (fold_cast ℕ ℕ slot_step (λ a. a.expr) slot c on));
-    };
+    get_case = λ slot on ih f.
+        let own : List Ruling = (E2, is_some (type_in on) && not (is_some (accessed p (type_in on) f))) ∷ [] in
+        record {
+          before = (judged_in b on).rules [];
+          root = λ more. own ++ more;
+          behind = [];
+          is = λ more. ap (λ (j : JudgedExpr). j.rules more) (fold_get JudgedExpr JudgedExpr (judged_step p g) judged_arg slot on f)
+              ∙ ap (λ s. (judged_in b on).rules [] ++ (s, own ++ more) ∷ []) (sym (fold_get ℕ ℕ slot_step (λ a. a.expr) slot on f));
+          own = λ more none. own_behind (at (slot_of (e.Get slot on f))) own more none;
+          given = λ more none. given_behind (at (slot_of (e.Get slot on f))) own more none;
+        };
+    call_case = λ slot on ih m ys.
+        let args : List Arg = args_of HasRoot ys in
+        let ts : Option (List (List ℕ)) = arg_types p g args in
+        let d : Option Method = called p (type_in on) ts m in
+        let f : Fit = fit_of p (judged_args p g args) ts (option_map (λ (d : Method). param_types d.params) d) in
+        let own : List Ruling = (E3, is_some (type_in on) && is_some ts && not (is_some d)) ∷ ((E4, f.differs) ∷ []) in
+        record {
+          before = (judged_in b on).rules [];
+          root = λ more. own ++ more;
+          behind = argument_rules E5 (judged_args p g args) f.misfits;
+          is = λ more. ap (λ (j : JudgedExpr). j.rules more) (fold_call JudgedExpr JudgedExpr (judged_step p g) judged_arg slot on m args)
+              ∙ ap (λ s. (judged_in b on).rules [] ++ (s, own ++ more) ∷ argument_rules E5 (judged_args p g args) f.misfits)
+              (sym (fold_call ℕ ℕ slot_step (λ a. a.expr) slot on m args));
+          own = λ more none. own_behind (at (slot_of (e.Call slot on m args))) own more none;
+          given = λ more none. given_behind (at (slot_of (e.Call slot on m args))) own more none;
+        };
+    new_case = λ slot c ys.
+        let args : List Arg = args_of HasRoot ys in
+        let f : Fit = fit_of p (judged_args p g args) (arg_types p g args) (field_types p c) in
+        let v : Ruling = (K1, not (is_known p c)) in
+        let w : Ruling = (E6, f.differs) in
+        record {
+          before = [];
+          root = λ more. v ∷ with_ruling w more;
+          behind = argument_rules E7 (judged_args p g args) f.misfits;
+          is = λ more. ap (λ (j : JudgedExpr). j.rules more) (fold_new JudgedExpr JudgedExpr (judged_step p g) judged_arg slot c args)
+              ∙ ap (λ s. (s, v ∷ with_ruling w more) ∷ argument_rules E7 (judged_args p g args) f.misfits) (sym (fold_new ℕ ℕ slot_step (λ a. a.expr) slot c args));
+          own = λ more none. own_among (at (slot_of (e.New slot c args))) v w more none;
+          given = λ more none. given_among (at (slot_of (e.New slot c args))) v w more none;
+        };
+    cast_case = λ slot c on ih.
+        let v : Ruling = (K1, not (is_known p c)) in
+        let w : Ruling = (E8, is_unrelated p (type_in on) c) in
+        record {
+          before = [];
+          root = λ more. v ∷ with_ruling w more;
+          behind = (judged_in b on).rules [];
+          is = λ more. ap (λ (j : JudgedExpr). j.rules more) (fold_cast JudgedExpr JudgedExpr (judged_step p g) judged_arg slot c on)
+              ∙ ap (λ s. (s, v ∷ with_ruling w more) ∷ (judged_in b on).rules []) (sym (fold_cast ℕ ℕ slot_step (λ a. a.expr) slot c on));
+          own = λ more none. own_among (at (slot_of (e.Cast slot c on))) v w more none;
+          given = λ more none. given_among (at (slot_of (e.Cast slot c on))) v w more none;
+        };
   })
 
-  by_root : (x : Expr) (r : HasRoot x) (more : List Verdict) → pairs ((judged_in b x).rules more)
-      ≡ pairs r.before ++ ((broken (judged_at (at (slot_of x)) r.own) ++ broken (judged_at (at (slot_of x)) more)) ++ pairs r.behind)
+  by_root : (x : Expr) (r : HasRoot x) (more : List Ruling)
+      → pairs ((judged_in b x).rules more) ≡ pairs r.before ++ (broken (judged_at (at (slot_of x)) (r.root more)) ++ pairs r.behind)
   by_root x r more =
-      ap pairs (r.is more) ∙ pairs_append r.before ((slot_of x, r.own ++ more) ∷ r.behind)
-      ∙ ap (λ z. pairs r.before ++ z) (broken_append (judged_at (at (slot_of x)) (r.own ++ more)) (at_nodes b r.behind)
-      ∙ ap (λ z. z ++ pairs r.behind) (site_append (at (slot_of x)) r.own more))
+      ap pairs (r.is more) ∙ pairs_append r.before ((slot_of x, r.root more) ∷ r.behind)
+      ∙ ap (λ z. pairs r.before ++ z) (broken_append (judged_at (at (slot_of x)) (r.root more)) (at_nodes b r.behind))
 
   -- rules that the node round it judges at its root and that don't break change nothing
-  unchanged : (x : Expr) (more : List Verdict) → none_breaks more ≡ true → pairs ((judged_in b x).rules more) ≡ broken (nodes_in b x)
+  unchanged : (x : Expr) (more : List Ruling) → none_breaks more ≡ true → pairs ((judged_in b x).rules more) ≡ broken (nodes_in b x)
   unchanged x more none =
       by_root x (rooted x) more
-      ∙ ap (λ z. pairs (rooted x).before ++ ((broken (judged_at (at (slot_of x)) (rooted x).own) ++ z) ++ pairs (rooted x).behind)) (quiet_site (at (slot_of x)) more none)
+      ∙ ap (λ z. pairs (rooted x).before ++ (z ++ pairs (rooted x).behind)) ((rooted x).own more none)
       ∙ sym (by_root x (rooted x) [])
 
   -- where it has a type no rule of its nodes breaks
@@ -170,25 +233,24 @@ module _ (b : Body) where
   typed_quiet x t q = quiet_nodes ((judged_in b x).rules []) (typed_clear x t q)
 
   -- and then only what the node round it judges can break
-  at_root : (x : Expr) (t : List ℕ) (more : List Verdict) → type_in x ≡ Some t → pairs ((judged_in b x).rules more) ≡ broken (judged_at (at (slot_of x)) more)
+  at_root : (x : Expr) (t : List ℕ) (more : List Ruling) → type_in x ≡ Some t → pairs ((judged_in b x).rules more) ≡ broken (judged_at (at (slot_of x)) more)
   at_root x t more q =
       by_root x r more
-      ∙ ap (λ z. z ++ ((broken (judged_at (at (slot_of x)) r.own) ++ broken (judged_at (at (slot_of x)) more)) ++ pairs r.behind)) (quiet_nodes r.before parts.0)
-      ∙ ap (λ z. (z ++ broken (judged_at (at (slot_of x)) more)) ++ pairs r.behind)
-      (quiet_site (at (slot_of x)) r.own (and_parts (none_breaks r.own) true (sym (list_all-append (λ (v : Verdict). not v.1) r.own []) ∙ here.0)).0)
+      ∙ ap (λ z. z ++ (broken (judged_at (at (slot_of x)) (r.root more)) ++ pairs r.behind)) (quiet_nodes r.before parts.0)
+      ∙ ap (λ z. z ++ pairs r.behind) (r.given more here.0)
       ∙ ap (λ z. broken (judged_at (at (slot_of x)) more) ++ z) (quiet_nodes r.behind here.1)
       ∙ append-nil (broken (judged_at (at (slot_of x)) more))
     where
       r : HasRoot x
       r = rooted x
 
-      parts : (nodes_clear r.before ≡ true) × ((none_breaks (r.own ++ []) && nodes_clear r.behind) ≡ true)
+      parts : (nodes_clear r.before ≡ true) × ((none_breaks (r.root []) && nodes_clear r.behind) ≡ true)
       parts =
-          and_parts (nodes_clear r.before) (none_breaks (r.own ++ []) && nodes_clear r.behind)
-          (sym (list_all-append (λ n. none_breaks n.1) r.before ((slot_of x, r.own ++ []) ∷ r.behind)) ∙ ap nodes_clear (sym (r.is [])) ∙ typed_clear x t q)
+          and_parts (nodes_clear r.before) (none_breaks (r.root []) && nodes_clear r.behind)
+          (sym (list_all-append (λ n. none_breaks n.1) r.before ((slot_of x, r.root []) ∷ r.behind)) ∙ ap nodes_clear (sym (r.is [])) ∙ typed_clear x t q)
 
-      here : (none_breaks (r.own ++ []) ≡ true) × (nodes_clear r.behind ≡ true)
-      here = and_parts (none_breaks (r.own ++ [])) (nodes_clear r.behind) parts.1
+      here : (none_breaks (r.root []) ≡ true) × (nodes_clear r.behind ≡ true)
+      here = and_parts (none_breaks (r.root [])) (nodes_clear r.behind) parts.1
 
   -- ---- arguments
 

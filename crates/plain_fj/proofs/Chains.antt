@@ -3,7 +3,7 @@ use Rattle.std.proofs.Common.{◌≡◌, ℕ, zero, suc, ◌<◌, ◌≤◌, ◌
 use Rattle.std.specs.List.{list_any}
 use Rattle.std.specs.Str.{bytes_eq}
 use Rattle.std.proofs.lemmas.Bool.{or_cases, or_left, or_right}
-use Rattle.cfj_model.specs.UnitClauses.{Has}
+use Rattle.cfj_words.specs.Lists.{Has}
 use Rattle.cfj_model.specs.LookUps.{Table, is_called, declared, without, added, chain_in, chain, is_subtype}
 use Rattle.cfj_model.specs.Judging.{extends_itself}
 use Rattle.cfj_model.specs.Typing.{Extends, IsSubtype, s_refl, s_extends, s_trans}

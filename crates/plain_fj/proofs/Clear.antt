@@ -1,29 +1,44 @@
 -- No rule of an expression's nodes breaks exactly where the expression has a type; the classes that it names are known then.
-use Rattle.std.proofs.Common.{◌≡◌, ℕ, suc, Bool, true, false, not, ◌&&◌, ◌||◌, ◌==◌, cond, List, [], ◌∷◌, length, map, Option, None, Some, is_some, option_map, refl, sym, ◌∙◌, ap, arith}
+use Rattle.std.proofs.Common.{◌≡◌, ℕ, suc, nat_lt, Bool, true, false, not, ◌&&◌, ◌||◌, ◌==◌, cond, List, [], ◌∷◌, length, map, Option, None, Some, is_some, option_map, refl, sym, ◌∙◌, ap, arith}
 use Rattle.std.specs.List.{list_all, list_any}
 use Rattle.std.proofs.lemmas.Bool.{and_parts, and_from}
 use Rattle.std.proofs.lemmas.List.{length-map}
 use Rattle.std.proofs.lemmas.List.Folds.{list_all-append}
 use Rattle.cfj_model.specs.LookUps.{Table, is_known}
-use Rattle.cfj_model.specs.Judging.{Verdict, JudgedExpr, judged_step, judged_arg, types_of, Fit, fits, fit_of, fit_numbers, misfits, no_misfits, argument_rules, type_if, variable_type, accessed, called, result_type, field_types, is_unrelated}
+use Rattle.cfj_model.specs.Judging.{Ruling, JudgedExpr, judged_step, judged_arg, types_of, Fit, fits, fit_of, fit_numbers, misfits, no_misfits, argument_rules, type_if, variable_type, accessed, called, result_type, field_types, is_unrelated, rank, with_ruling}
 use Rattle.cfj_model.specs.Typing.{Environment, param_types, classes_named_by, classes_named_step, joined}
 use Rattle.cfj_model.specs.declared.class.Method.{Method}
 use Rattle.cfj_model.specs.declared.expr.Arg.{Arg}
 use Rattle.cfj_model.specs.declared.expr.Expr.{Expr}
 use Rattle.cfj_model.specs.declared.expr.Expr.TheVariants as e
 use Rattle.cfj_model.specs.declared.site.Rule.{Rule}
-use Rattle.cfj_model.specs.declared.site.Rule.TheVariants.{E2, E3, E4, E5, E7}
+use Rattle.cfj_model.specs.declared.site.Rule.TheVariants.{E2, E3, E4, E5, E6, E7, E8}
 use Rattle.cfj_model.proofs.ExprCases.{fold_var, fold_get, fold_call, fold_new, fold_cast, Proved, args_of, by_cases}
 use Rattle.plain_fj.proofs.Members.{unlike, not_true}
 use Rattle.plain_fj.proofs.Typed.{type_of, judged_of, judged_args, arg_types, type_var, type_get, type_call, type_new, type_cast}
 
 -- none of these rules breaks
-abbrev pub none_breaks : List Verdict → Bool
+abbrev pub none_breaks : List Ruling → Bool
 none_breaks vs = list_all (λ v. not v.1) vs
 
 -- none of the rules of these nodes breaks
-abbrev pub nodes_clear : List (ℕ × List Verdict) → Bool
+abbrev pub nodes_clear : List (ℕ × List Ruling) → Bool
 nodes_clear ns = list_all (λ n. none_breaks n.1) ns
+
+-- one more ruling breaks, or one of the others
+pub none_with_ruling : (v : Ruling) (vs : List Ruling) → none_breaks (with_ruling v vs) ≡ (not v.1 && none_breaks vs)
+none_with_ruling v [] = refl
+none_with_ruling v (w ∷ ws) = go (nat_lt (rank w.0) (rank v.0)) (none_with_ruling v ws)
+  where
+    turned : (a b c : Bool) → (a && (b && c)) ≡ (b && (a && c))
+    turned true true c = refl
+    turned true false c = refl
+    turned false true c = refl
+    turned false false c = refl
+
+    go : (b : Bool) → none_breaks (with_ruling v ws) ≡ (not v.1 && none_breaks ws) → none_breaks (cond b (w ∷ with_ruling v ws) (v ∷ (w ∷ ws))) ≡ (not v.1 && (not w.1 && none_breaks ws))
+    go true ih = ap (λ b. not w.1 && b) ih ∙ turned (not w.1) (not v.1) (none_breaks ws)
+    go false ih = refl
 
 -- ---- tests
 
@@ -148,7 +163,7 @@ fit_length p xs wanted = go (types_of (map (λ (x : JudgedExpr). x.type) xs)) re
 module _ (p : Table) (g : Environment) where
   -- No rule of its nodes breaks, nor one that the node round it judges at its root, exactly where it has a type and none of those does.
   abbrev Clear : Expr → Type 0
-  Clear x = (more : List Verdict) → nodes_clear ((judged_of p g x).rules more) ≡ (is_some (type_of p g x) && none_breaks more)
+  Clear x = (more : List Ruling) → nodes_clear ((judged_of p g x).rules more) ≡ (is_some (type_of p g x) && none_breaks more)
 
   args_clear : (rule : Rule) (ys : List (Proved Clear)) (bs : List Bool) → length bs ≡ length (judged_args p g (args_of Clear ys))
       → nodes_clear (argument_rules rule (judged_args p g (args_of Clear ys)) bs) ≡ (is_some (arg_types p g (args_of Clear ys)) && not (list_any (λ b. b) bs))
@@ -214,6 +229,7 @@ module _ (p : Table) (g : Environment) where
   clear_new : (slot : ℕ) (c : List ℕ) (ys : List (Proved Clear)) → Clear (e.New slot c (args_of Clear ys))
   clear_new slot c ys more =
       ap (λ (j : JudgedExpr). nodes_clear (j.rules more)) (fold_new JudgedExpr JudgedExpr (judged_step p g) judged_arg slot c (args_of Clear ys))
+      ∙ ap (λ a. (not (not (is_known p c)) && a) && nodes_clear (argument_rules E7 xs f.misfits)) (none_with_ruling (E6, f.differs) more)
       ∙ ap (λ a. (not (not (is_known p c)) && (not f.differs && none_breaks more)) && a) (args_clear E7 ys f.misfits (fit_length p xs (field_types p c)))
       ∙ new_bools (is_some ts) (is_known p c) f.differs (none_breaks more) (list_any (λ b. b) f.misfits)
       ∙ ap (λ b. b && none_breaks more) (sym (some_type (is_some ts && is_known p c && fits f) c))
@@ -231,6 +247,7 @@ module _ (p : Table) (g : Environment) where
   clear_cast : (slot : ℕ) (c : List ℕ) (on : Expr) → Clear on → Clear (e.Cast slot c on)
   clear_cast slot c on ih more =
       ap (λ (j : JudgedExpr). nodes_clear (j.rules more)) (fold_cast JudgedExpr JudgedExpr (judged_step p g) judged_arg slot c on)
+      ∙ ap (λ a. (not (not (is_known p c)) && a) && nodes_clear ((judged_of p g on).rules [])) (none_with_ruling (E8, is_unrelated p t c) more)
       ∙ ap (λ a. (not (not (is_known p c)) && (not (is_unrelated p t c) && none_breaks more)) && a) (ih [])
       ∙ cast_bools (is_some t) (is_known p c) (is_unrelated p t c) (none_breaks more)
       ∙ ap (λ b. b && none_breaks more) (sym (some_type (is_some t && is_known p c && not (is_unrelated p t c)) c))
@@ -239,7 +256,7 @@ module _ (p : Table) (g : Environment) where
       t : Option (List ℕ)
       t = type_of p g on
 
-  pub clear : (x : Expr) (more : List Verdict) → nodes_clear ((judged_of p g x).rules more) ≡ (is_some (type_of p g x) && none_breaks more)
+  pub clear : (x : Expr) (more : List Ruling) → nodes_clear ((judged_of p g x).rules more) ≡ (is_some (type_of p g x) && none_breaks more)
   clear = by_cases Clear (record { var_case = clear_var; get_case = clear_get; call_case = clear_call; new_case = clear_new; cast_case = clear_cast })
 
   -- ---- names

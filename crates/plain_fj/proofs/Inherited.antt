@@ -3,7 +3,7 @@ use Rattle.std.proofs.Common.{◌≡◌, ℕ, ◌⊎◌, inl, inr, Bool, true, f
 use Rattle.std.specs.Str.{bytes_eq}
 use Rattle.std.proofs.lemmas.Bool.{or_cases}
 use Rattle.cfj_model.specs.ProductLines.{object, are_distinct}
-use Rattle.cfj_model.specs.UnitClauses.{Has}
+use Rattle.cfj_words.specs.Lists.{Has}
 use Rattle.cfj_model.specs.LookUps.{Table, is_called, without, ancestors, declared, is_known, chain, first_some, fields_of, all_fields, field_called, field_of, method_called, method_of}
 use Rattle.cfj_model.specs.Typing.{IsSubtype, s_refl, s_extends, s_trans, HasFields, f_object, f_class, HasMethodType, mt_class, mt_super, param_types, TypesField}
 use Rattle.cfj_model.specs.declared.class.Class.{Class}

@@ -2,7 +2,7 @@
 use Rattle.std.proofs.Common.{◌≡◌, ℕ, ◌≢◌, true, false, List, ◌++◌, length, Option, None, Some, Bor, Vec, Global, refl, sym, ◌∙◌, ap, ap₂}
 use Rattle.std.specs.List.{list_any}
 use Rattle.cfj_model.specs.LookUps.{Table, method_of}
-use Rattle.cfj_model.specs.Judging.{Judged, Pair, fit_numbers, fits, misfits, called, result_type, type_if}
+use Rattle.cfj_model.specs.Judging.{RuleAt, Pair, fit_numbers, fits, misfits, called, result_type, type_if}
 use Rattle.cfj_model.specs.Typing.{Environment, param_types}
 use Rattle.cfj_model.specs.declared.class.Method.{Method}
 use Rattle.cfj_model.specs.declared.expr.Arg.{Arg}
@@ -69,7 +69,7 @@ module _ (b : Body) where
         qs = args_typed b args ts us m c all js
 
         -- the call's own rules break as these do
-        call_adds : (h : List Break) (ls : List Judged) → own_by (Some k.now) (Some (names us.items)) ≡ broken (own_nodes b args) ++ broken ls → Adds c h ls → Adds a h (nodes_in b call)
+        call_adds : (h : List Break) (ls : List RuleAt) → own_by (Some k.now) (Some (names us.items)) ≡ broken (own_nodes b args) ++ broken ls → Adds c h ls → Adds a h (nodes_in b call)
         call_adds h ls own adds =
             three_adds a m c h (nodes_in b on) (own_nodes b args) ls (nodes_in b call) j.adds js.adds adds
             (call_is (Some k.now) (Some (names us.items)) q qs ∙ ap (λ z. broken (nodes_in b on) ++ z) own)

@@ -2,7 +2,7 @@
 use Rattle.std.proofs.Common.{◌≡◌, ℕ, ◌≢◌, Bool, true, false, not, List, ◌++◌, length, Option, None, Some, Bor, Vec, Global, refl, sym, ◌∙◌, ap, ap₂}
 use Rattle.std.specs.List.{list_any}
 use Rattle.cfj_model.specs.LookUps.{Table, all_fields, is_known}
-use Rattle.cfj_model.specs.Judging.{Judged, Pair, fit_numbers, fits, misfits, type_if}
+use Rattle.cfj_model.specs.Judging.{RuleAt, Pair, fit_numbers, fits, misfits, type_if}
 use Rattle.cfj_model.specs.Typing.{Environment}
 use Rattle.cfj_model.specs.declared.expr.Arg.{Arg}
 use Rattle.cfj_model.specs.declared.expr.Expr.{Expr}
@@ -65,7 +65,7 @@ module _ (b : Body) where
         abbrev ws : List (List ℕ)
         ws = own_types (all_fields p k)
 
-        new_adds : (h : List Break) (ls : List Judged) → by_fit b slot E6 E7 args (fit_numbers p (names us.items) ws) ≡ broken (own_nodes b args) ++ broken ls → Adds c h ls → Adds a h (nodes_in b new)
+        new_adds : (h : List Break) (ls : List RuleAt) → by_fit b slot E6 E7 args (fit_numbers p (names us.items) ws) ≡ broken (own_nodes b args) ++ broken ls → Adds c h ls → Adds a h (nodes_in b new)
         new_adds h ls own adds =
             three_adds a m c h (at_nodes b (one b slot K1 (not (is_known p k)))) (own_nodes b args) ls (nodes_in b new) named js.adds adds
             (new_is true (Some (names us.items)) known qs ∙ ap (λ z. first ++ z) own)

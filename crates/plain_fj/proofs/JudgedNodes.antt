@@ -5,7 +5,7 @@ use Rattle.std.specs.Option.{option_copied}
 use Rattle.std.specs.Str.{bytes_eq}
 use Rattle.std.proofs.lemmas.List.{append-nil}
 use Rattle.cfj_model.specs.LookUps.{Table, field_of, is_known, is_subtype}
-use Rattle.cfj_model.specs.Judging.{Judged, variable_type, param_type, accessed, is_unrelated, type_if}
+use Rattle.cfj_model.specs.Judging.{RuleAt, variable_type, param_type, accessed, is_unrelated, type_if}
 use Rattle.cfj_model.specs.Typing.{Environment, this}
 use Rattle.cfj_model.specs.declared.class.Field.{Field}
 use Rattle.cfj_model.specs.declared.class.Param.{Param}
@@ -23,10 +23,10 @@ use Rattle.plain_fj.proofs.Members.{not_true}
 
 -- ---- parts that are added
 
-pub two_adds : (a c e : List Break) (js ks ws : List Judged) → Adds a c js → Adds c e ks → broken ws ≡ broken js ++ broken ks → Adds a e ws
+pub two_adds : (a c e : List Break) (js ks ws : List RuleAt) → Adds a c js → Adds c e ks → broken ws ≡ broken js ++ broken ks → Adds a e ws
 two_adds a c e js ks ws first next same = adds_as a e (js ++ ks) ws (broken_append js ks ∙ sym same) (adds_then a c e js ks first next)
 
-pub three_adds : (a m c e : List Break) (js ks ls ws : List Judged) → Adds a m js → Adds m c ks → Adds c e ls → broken ws ≡ broken js ++ (broken ks ++ broken ls) → Adds a e ws
+pub three_adds : (a m c e : List Break) (js ks ls ws : List RuleAt) → Adds a m js → Adds m c ks → Adds c e ls → broken ws ≡ broken js ++ (broken ks ++ broken ls) → Adds a e ws
 three_adds a m c e js ks ls ws first second third same =
     two_adds a m e js (ks ++ ls) ws first (adds_then m c e ks ls second third) (same ∙ ap (λ z. broken js ++ z) (sym (broken_append ks ls)))
 

@@ -2,7 +2,7 @@
 use Rattle.std.proofs.Common.{◌≡◌, Bool, true, false, not, ◌&&◌, map, is_some}
 use Rattle.std.specs.List.{list_all, list_any}
 use Rattle.std.proofs.lemmas.Bool.{and_parts, and_from, not-true, not_from_false}
-use Rattle.cfj_model.specs.UnitClauses.{Has}
+use Rattle.cfj_words.specs.Lists.{Has}
 use Rattle.cfj_model.specs.LookUps.{Table, is_known, all_fields, ancestors, field_called, first_some, method_called}
 use Rattle.cfj_model.specs.Judging.{are_same, takes_fields, extends_itself, is_no_result, is_overridden_wrongly}
 use Rattle.cfj_model.specs.declared.class.Class.{Class}

@@ -4,10 +4,10 @@ use Rattle.std.specs.Prelude.{◌↔◌}
 use Rattle.std.specs.List.{list_all}
 use Rattle.std.specs.Str.{bytes_eq}
 use Rattle.std.proofs.lemmas.Bool.{and_parts, and_from, not-true, not-false, false_from_ne_true}
-use Rattle.cfj_model.specs.Names.{is_short_identifier}
+use Rattle.cfj_words.specs.Names.{is_short_identifier}
 use Rattle.cfj_model.specs.Expressions.{are_known}
 use Rattle.cfj_model.specs.ProductLines.{ProductLine, IsProject, object, most_fields, are_distinct, is_field, are_fields as are_kept_fields, is_ctor, are_methods, is_class}
-use Rattle.cfj_model.specs.UnitClauses.{Has}
+use Rattle.cfj_words.specs.Lists.{Has}
 use Rattle.cfj_model.specs.LookUps.{Table, is_called, is_known, is_subtype, declared, chain, all_fields, ancestors, field_called, first_some, method_called, method_of}
 use Rattle.cfj_model.specs.Judging.{first_breaking, are_same, environment_of, extends_itself, is_no_result, is_overridden_wrongly}
 use Rattle.cfj_model.specs.Typing.{Extends, IsSubtype, HasFields, HasMethodType, IsMethodOk, IsClassOk, IsTableOk, IsWellTyped, param_types, param_pair, field_pair, class_uses}

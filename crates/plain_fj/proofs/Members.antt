@@ -5,8 +5,9 @@ use Rattle.std.specs.Str.{bytes_eq}
 use Rattle.std.proofs.lemmas.Bool.{and_parts, and_from, or_cases, or_parts, or_left, or_right, not-true}
 use Rattle.std.proofs.lemmas.Slice.Eq.{bytes_eq-Decides}
 use Rattle.std.proofs.lemmas.List.Folds.{list_all-append, list_any-append}
-use Rattle.cfj_model.specs.ProductLines.{has, are_new, are_distinct}
-use Rattle.cfj_model.specs.UnitClauses.{Has}
+use Rattle.cfj_model.specs.ProductLines.{are_new, are_distinct}
+use Rattle.cfj_words.specs.Names.{is_among}
+use Rattle.cfj_words.specs.Lists.{Has}
 
 pub unlike : {A : Type 0} {x : A} → None ≡ Some x → ⊥
 unlike e = cc e
@@ -127,14 +128,14 @@ all_flat_map f g (x ∷ xs) = list_all-append f (g x) (flat_map g xs) ∙ ap (λ
 -- ---- distinct names
 
 -- a name that isn't among those before isn't one of them
-new_behind : (before ns : List (List ℕ)) → are_new before ns ≡ true → (n : List ℕ) → Has ns n → has before n ≡ false
+new_behind : (before ns : List (List ℕ)) → are_new before ns ≡ true → (n : List ℕ) → Has ns n → is_among before n ≡ false
 new_behind before [] e n h = absurd (has_none n h)
 new_behind before (m ∷ ns) e n (zero, s) =
     let d : m ≡ n = cc s in
-    ap (has before) (sym d) ∙ not-true (has before m) (and_parts (not (has before m)) (are_new (before ++ m ∷ []) ns) e).0
+    ap (is_among before) (sym d) ∙ not-true (is_among before m) (and_parts (not (is_among before m)) (are_new (before ++ m ∷ []) ns) e).0
 new_behind before (m ∷ ns) e n (suc k, s) =
-    let later = new_behind (before ++ m ∷ []) ns (and_parts (not (has before m)) (are_new (before ++ m ∷ []) ns) e).1 n (k, s) in
-    (or_parts (has before n) (has (m ∷ []) n) (sym (list_any-append (λ x. bytes_eq x n) before (m ∷ [])) ∙ later)).0
+    let later = new_behind (before ++ m ∷ []) ns (and_parts (not (is_among before m)) (are_new (before ++ m ∷ []) ns) e).1 n (k, s) in
+    (or_parts (is_among before n) (is_among (m ∷ []) n) (sym (list_any-append (λ x. bytes_eq x n) before (m ∷ [])) ∙ later)).0
 
 find_new : {A : Type 0} (key : A → List ℕ) (before : List (List ℕ)) (xs : List A) → are_new before (map key xs) ≡ true → (x : A) → Has xs x → (n : List ℕ) → key x ≡ n
     → find (λ y. bytes_eq (key y) n) xs ≡ Some x
@@ -142,7 +143,7 @@ find_new key before [] e x h n s = absurd (has_none x h)
 find_new {A = A} key before (y ∷ ys) e x h n s = go (λ h. find_new key (before ++ key y ∷ []) ys apart x h n s) (has_cases y ys x h)
   where
     apart : are_new (before ++ key y ∷ []) (map key ys) ≡ true
-    apart = (and_parts (not (has before (key y))) (are_new (before ++ key y ∷ []) (map key ys)) e).1
+    apart = (and_parts (not (is_among before (key y))) (are_new (before ++ key y ∷ []) (map key ys)) e).1
 
     go : (Has ys x → find (λ z. bytes_eq (key z) n) ys ≡ Some x) → (y ≡ x) ⊎ Has ys x → cond (bytes_eq (key y) n) (Some y) (find (λ z. bytes_eq (key z) n) ys) ≡ Some x
     go ih (inl t) = ap (λ b. cond b (Some y) (find (λ z. bytes_eq (key z) n) ys)) (is_name (key y) n (ap key t ∙ s)) ∙ ap Some t
@@ -151,7 +152,7 @@ find_new {A = A} key before (y ∷ ys) e x h n s = go (λ h. find_new key (befor
         not_here : key y ≡ n → ⊥
         not_here t =
             let f = new_behind (before ++ key y ∷ []) (map key ys) apart (key x) (has_map key ys x h) in
-            let g = or_parts (has before (key x)) (has (key y ∷ []) (key x)) (sym (list_any-append (λ z. bytes_eq z (key x)) before (key y ∷ [])) ∙ f) in
+            let g = or_parts (is_among before (key x)) (is_among (key y ∷ []) (key x)) (sym (list_any-append (λ z. bytes_eq z (key x)) before (key y ∷ [])) ∙ f) in
             name_differs (key y) (key x) (or_parts (bytes_eq (key y) (key x)) false g.1).0 (t ∙ sym s)
 
 -- of items with distinct names the one with this name is found

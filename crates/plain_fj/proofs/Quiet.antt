@@ -4,7 +4,7 @@ use Rattle.std.specs.List.{list_all, list_any, find, flat_map}
 use Rattle.std.proofs.lemmas.Bool.{not-true, not_from_false}
 use Rattle.std.proofs.lemmas.List.Folds.{list_all-append}
 use Rattle.cfj_model.specs.LookUps.{Table, is_known, all_fields, ancestors, field_called, first_some, method_called}
-use Rattle.cfj_model.specs.Judging.{Judged, Verdict, judged_at, judged_field, judged_ctor, judged_method, judged_class, judged, pair_of, first_breaking, are_same, takes_fields, environment_of, extends_itself, is_no_result, is_overridden_wrongly}
+use Rattle.cfj_model.specs.Judging.{RuleAt, Ruling, judged_at, judged_field, judged_ctor, judged_method, judged_class, judged, pair_of, first_breaking, are_same, takes_fields, environment_of, extends_itself, is_no_result, is_overridden_wrongly}
 use Rattle.cfj_model.specs.declared.class.Class.{Class}
 use Rattle.cfj_model.specs.declared.class.Field.{Field}
 use Rattle.cfj_model.specs.declared.class.Method.{Method}
@@ -17,7 +17,7 @@ use Rattle.plain_fj.proofs.Typed.{judged_of, type_of}
 use Rattle.plain_fj.proofs.Clear.{none_breaks, nodes_clear, clear}
 
 -- none of these breaks
-abbrev none_judged : List Judged → Bool
+abbrev none_judged : List RuleAt → Bool
 none_judged js = list_all (λ j. not j.breaks) js
 
 -- the type of a method's body
@@ -80,24 +80,24 @@ method_rules true false false true false = refl
 
 -- ---- sites
 
-judged_clear : (s : Site) (vs : List Verdict) → none_judged (judged_at s vs) ≡ none_breaks vs
+judged_clear : (s : Site) (vs : List Ruling) → none_judged (judged_at s vs) ≡ none_breaks vs
 judged_clear s [] = refl
 judged_clear s (v ∷ vs) = ap (λ b. not v.1 && b) (judged_clear s vs)
 
 params_judged : (at : Param → Site) (p : Table) (qs : List Param) → none_judged (flat_map (λ q. judged_at (at q) ((K1, not (is_known p q.of)) ∷ [])) qs) ≡ are_known_params p qs
 params_judged at p qs =
-    all_flat_map (λ (j : Judged). not j.breaks) (λ (q : Param). judged_at (at q) ((K1, not (is_known p q.of)) ∷ [])) qs
+    all_flat_map (λ (j : RuleAt). not j.breaks) (λ (q : Param). judged_at (at q) ((K1, not (is_known p q.of)) ∷ [])) qs
     ∙ all_same (λ (q : Param). not (not (is_known p q.of)) && true) (λ (q : Param). is_known p q.of) (λ q. one_rule (is_known p q.of)) qs
 
-nodes_judged : (at : ℕ → Site) (ns : List (ℕ × List Verdict)) → none_judged (flat_map (λ n. judged_at (at n.0) n.1) ns) ≡ nodes_clear ns
+nodes_judged : (at : ℕ → Site) (ns : List (ℕ × List Ruling)) → none_judged (flat_map (λ n. judged_at (at n.0) n.1) ns) ≡ nodes_clear ns
 nodes_judged at ns =
-    all_flat_map (λ (j : Judged). not j.breaks) (λ (n : ℕ × List Verdict). judged_at (at n.0) n.1) ns
-    ∙ all_same (λ (n : ℕ × List Verdict). none_judged (judged_at (at n.0) n.1)) (λ (n : ℕ × List Verdict). none_breaks n.1) (λ n. judged_clear (at n.0) n.1) ns
+    all_flat_map (λ (j : RuleAt). not j.breaks) (λ (n : ℕ × List Ruling). judged_at (at n.0) n.1) ns
+    ∙ all_same (λ (n : ℕ × List Ruling). none_judged (judged_at (at n.0) n.1)) (λ (n : ℕ × List Ruling). none_breaks n.1) (λ n. judged_clear (at n.0) n.1) ns
 
 method_judged : (p : Table) (k : Class) (m : Method) → none_judged (judged_method p k m) ≡ method_keeps p k m
 method_judged p k m =
     ap (λ b. not (not (is_known p m.result)) && (not wrong && (not (is_no_result p m (body_type p k m)) && b)))
-    (list_all-append (λ (j : Judged). not j.breaks) params nodes
+    (list_all-append (λ (j : RuleAt). not j.breaks) params nodes
     ∙ ap (λ b. b && none_judged nodes) (params_judged (λ q. site.Param k.name m.name m.alt q.slot) p m.params)
     ∙ ap (λ b. are_known_params p m.params && b) (nodes_judged (λ n. site.Node k.name m.name m.alt n) ((judged_of p (environment_of k m) m.body).rules []) ∙ clear p (environment_of k m) m.body []))
     ∙ method_rules (is_known p m.result) wrong (is_no_result p m (body_type p k m)) (are_known_params p m.params) (is_some (body_type p k m))
@@ -105,11 +105,11 @@ method_judged p k m =
     wrong : Bool
     wrong = is_overridden_wrongly m (first_some (method_called m.name) (ancestors p k.name))
 
-    params : List Judged
+    params : List RuleAt
     params = flat_map (λ (q : Param). judged_at (site.Param k.name m.name m.alt q.slot) ((K1, not (is_known p q.of)) ∷ [])) m.params
 
-    nodes : List Judged
-    nodes = flat_map (λ (n : ℕ × List Verdict). judged_at (site.Node k.name m.name m.alt n.0) n.1) ((judged_of p (environment_of k m) m.body).rules [])
+    nodes : List RuleAt
+    nodes = flat_map (λ (n : ℕ × List Ruling). judged_at (site.Node k.name m.name m.alt n.0) n.1) ((judged_of p (environment_of k m) m.body).rules [])
 
 ctor_judged : (p : Table) (k : Class) → none_judged (judged_ctor p k) ≡ ctor_keeps p k
 ctor_judged p k =
@@ -128,45 +128,45 @@ ctor_judged p k =
 class_judged : (p : Table) (k : Class) → none_judged (judged_class p k) ≡ class_keeps p k
 class_judged p k =
     ap (λ b. not (not (is_known p k.parent)) && (not (extends_itself p k) && b))
-    (list_all-append (λ (j : Judged). not j.breaks) fields (judged_ctor p k ++ methods)
+    (list_all-append (λ (j : RuleAt). not j.breaks) fields (judged_ctor p k ++ methods)
     ∙ ap (λ b. b && none_judged (judged_ctor p k ++ methods)) fields_judged
     ∙ ap (λ b. list_all (field_keeps p k) k.fields && b)
-    (list_all-append (λ (j : Judged). not j.breaks) (judged_ctor p k) methods
+    (list_all-append (λ (j : RuleAt). not j.breaks) (judged_ctor p k) methods
     ∙ ap (λ b. b && none_judged methods) (ctor_judged p k)
     ∙ ap (λ b. ctor_keeps p k && b) methods_judged))
     ∙ two_and_more (is_known p k.parent) (extends_itself p k) (list_all (field_keeps p k) k.fields && (ctor_keeps p k && list_all (method_keeps p k) k.methods))
   where
-    fields : List Judged
+    fields : List RuleAt
     fields = flat_map (judged_field p k) k.fields
 
-    methods : List Judged
+    methods : List RuleAt
     methods = flat_map (judged_method p k) k.methods
 
     fields_judged : none_judged fields ≡ list_all (field_keeps p k) k.fields
     fields_judged =
-        all_flat_map (λ (j : Judged). not j.breaks) (judged_field p k) k.fields
+        all_flat_map (λ (j : RuleAt). not j.breaks) (judged_field p k) k.fields
         ∙ all_same (λ (f : Field). none_judged (judged_field p k f)) (field_keeps p k)
         (λ f. two_rules (is_known p f.of) (list_any (λ a. is_some (field_called f.name a)) (ancestors p k.name))) k.fields
 
     methods_judged : none_judged methods ≡ list_all (method_keeps p k) k.methods
     methods_judged =
-        all_flat_map (λ (j : Judged). not j.breaks) (judged_method p k) k.methods
+        all_flat_map (λ (j : RuleAt). not j.breaks) (judged_method p k) k.methods
         ∙ all_same (λ (m : Method). none_judged (judged_method p k m)) (method_keeps p k) (method_judged p k) k.methods
 
 table_judged : (p : Table) → none_judged (judged p) ≡ list_all (class_keeps p) p
 unfolding judged
 table_judged p =
-    all_flat_map (λ (j : Judged). not j.breaks) (judged_class p) p ∙ all_same (λ (k : Class). none_judged (judged_class p k)) (class_keeps p) (class_judged p) p
+    all_flat_map (λ (j : RuleAt). not j.breaks) (judged_class p) p ∙ all_same (λ (k : Class). none_judged (judged_class p k)) (class_keeps p) (class_judged p) p
 
 -- No rule breaks exactly where each class keeps its rules.
 pub quiet_keeps : (p : Table) → first_breaking p ≡ None → list_all (class_keeps p) p ≡ true
 quiet_keeps p h =
-    sym (table_judged p) ∙ has_all (λ (j : Judged). not j.breaks) (judged p) (λ j m. not_from_false j.breaks (find_none (λ (j : Judged). j.breaks) (judged p) (unfound (find (λ j. j.breaks) (judged p)) h) j m))
+    sym (table_judged p) ∙ has_all (λ (j : RuleAt). not j.breaks) (judged p) (λ j m. not_from_false j.breaks (find_none (λ (j : RuleAt). j.breaks) (judged p) (unfound (find (λ j. j.breaks) (judged p)) h) j m))
   where
-    unfound : (o : Option Judged) → option_map pair_of o ≡ None → o ≡ None
+    unfound : (o : Option RuleAt) → option_map pair_of o ≡ None → o ≡ None
     unfound None h = refl
     unfound (Some j) h = absurd (unlike (sym h))
 
 pub keeps_quiet : (p : Table) → list_all (class_keeps p) p ≡ true → first_breaking p ≡ None
 keeps_quiet p h =
-    ap (option_map pair_of) (none_find (λ (j : Judged). j.breaks) (judged p) (λ j m. not-true j.breaks (all_has (λ (j : Judged). not j.breaks) (judged p) (table_judged p ∙ h) j m)))
+    ap (option_map pair_of) (none_find (λ (j : RuleAt). j.breaks) (judged p) (λ j m. not-true j.breaks (all_has (λ (j : RuleAt). not j.breaks) (judged p) (table_judged p ∙ h) j m)))

@@ -4,7 +4,7 @@ use Rattle.std.specs.List.{find}
 use Rattle.std.specs.Str.{bytes_eq}
 use Rattle.std.proofs.lemmas.Bool.{and_parts, and_from, or_left, or_right}
 use Rattle.std.proofs.lemmas.Option.{cond_some}
-use Rattle.cfj_model.specs.UnitClauses.{Has}
+use Rattle.cfj_words.specs.Lists.{Has}
 use Rattle.cfj_model.specs.LookUps.{Table, is_known, is_subtype, all_fields, field_of, method_of}
 use Rattle.cfj_model.specs.Judging.{JudgedExpr, judged_expr, judged_step, judged_arg, types_of, fits, fit_of, fit_numbers, type_if, variable_type, param_type, accessed, called, result_type, is_unrelated}
 use Rattle.cfj_model.specs.Typing.{Environment, this, param_types, TypesField, HasType, t_this, t_var, t_field, t_invk, t_new, t_ucast, t_dcast, HaveTypesBelow, no_types, one_more}

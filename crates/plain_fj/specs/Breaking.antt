@@ -1,6 +1,6 @@
 -- The pairs of a site and a rule that break, as code finds them part by part.
 use Rattle.std.specs.Prelude.{◌≡◌, ℕ, not, List, [], ◌∷◌, ◌++◌, filter, flat_map, map}
-use Rattle.cfj_model.specs.Judging.{Judged, Pair, Verdict, judged, judged_at, pair_of}
+use Rattle.cfj_model.specs.Judging.{RuleAt, Pair, Ruling, judged, judged_at, pair_of}
 use Rattle.cfj_model.specs.LookUps.{Table, is_known}
 use Rattle.cfj_model.specs.Sites.{site_ref_seen}
 use Rattle.cfj_model.specs.declared.class.Class.{Class}
@@ -12,7 +12,7 @@ use Rattle.cfj_model.specs.declared.site.Site.TheVariants as site
 use Rattle.plain_fj.specs.declared.site_break.Break.{Break}
 
 -- the pairs of those of these that break
-abbrev pub broken : List Judged → List Pair
+abbrev pub broken : List RuleAt → List Pair
 broken js = map pair_of (filter (λ j. j.breaks) js)
 
 -- each pair of a project that breaks, in the order of the text, and at one site in the order of the rules
@@ -24,17 +24,17 @@ abbrev pub told : Break → Pair
 told b = (site_ref_seen b.site, b.rule)
 
 -- the breaks are those before, and behind them each of these that breaks
-abbrev pub Adds : List Break → List Break → List Judged → Type 0
+abbrev pub Adds : List Break → List Break → List RuleAt → Type 0
 Adds before after js = map told after ≡ map told before ++ broken js
 
 -- what is judged at nodes, by the site of a slot
-abbrev pub at_slots : (ℕ → Site) → List (ℕ × List Verdict) → List Judged
+abbrev pub at_slots : (ℕ → Site) → List (ℕ × List Ruling) → List RuleAt
 at_slots at ns = flat_map (λ n. judged_at (at n.0) n.1) ns
 
 -- what is judged at a parameter of a constructor
-abbrev pub judged_ctor_param : Table → Class → Param → List Judged
+abbrev pub judged_ctor_param : Table → Class → Param → List RuleAt
 judged_ctor_param p k q = judged_at (site.CtorParam k.name q.slot) ((K1, not (is_known p q.of)) ∷ [])
 
 -- what is judged at a parameter of a method
-abbrev pub judged_param : Table → Class → Method → Param → List Judged
+abbrev pub judged_param : Table → Class → Method → Param → List RuleAt
 judged_param p k m q = judged_at (site.Param k.name m.name m.alt q.slot) ((K1, not (is_known p q.of)) ∷ [])

@@ -3,7 +3,7 @@ use Rattle.std.specs.Prelude.{◌≡◌, ℕ, Bool, not, List, [], ◌∷◌, fl
 use Rattle.std.specs.Borrow.{Bor}
 use Rattle.std.specs.Option.{option_copied}
 use Rattle.std.specs.declared.alloc.Global.{Global}
-use Rattle.cfj_model.specs.Judging.{Judged, JudgedExpr, Verdict, judged_expr, types_of}
+use Rattle.cfj_model.specs.Judging.{RuleAt, JudgedExpr, Ruling, judged_expr, types_of}
 use Rattle.cfj_model.specs.LookUps.{is_known}
 use Rattle.cfj_model.specs.Typing.{Environment}
 use Rattle.cfj_model.specs.declared.expr.Arg.{Arg}
@@ -45,11 +45,11 @@ abbrev pub judged_all : Body → List Arg → List JudgedExpr
 judged_all b args = map (λ a. judged_in b a.expr) args
 
 -- what is judged at nodes of a body
-abbrev pub at_nodes : Body → List (ℕ × List Verdict) → List Judged
+abbrev pub at_nodes : Body → List (ℕ × List Ruling) → List RuleAt
 at_nodes b ns = at_slots (λ n. site.Node b.class.now b.method.now b.alt n) ns
 
 -- what is judged at the nodes of an expression
-abbrev pub nodes_in : Body → Expr → List Judged
+abbrev pub nodes_in : Body → Expr → List RuleAt
 nodes_in b x = at_nodes b ((judged_in b x).rules [])
 
 -- K1 is added at the node of this slot, where it breaks there.
@@ -67,7 +67,7 @@ pub record AreJudged (b : Body) (args : List Arg) (found : Option (Vec (Bor (Lis
   pub adds : Adds before after (flat_map (λ a. nodes_in b a.expr) args)
 
 -- a rule that is judged at the root of each argument
-abbrev pub at_roots : Rule → List Arg → List Bool → List (ℕ × List Verdict)
+abbrev pub at_roots : Rule → List Arg → List Bool → List (ℕ × List Ruling)
 at_roots rule [] bs = []
 at_roots rule (a ∷ args) [] = []
 at_roots rule (a ∷ args) (b ∷ bs) = (slot_of a.expr, (rule, b) ∷ []) ∷ at_roots rule args bs

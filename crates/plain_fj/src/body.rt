@@ -1,3 +1,5 @@
+//! The method whose body is judged.
+
 ghost use Rattle.std.specs.Prelude.{true, [], ◌∷◌, OnOk};
 ghost use Rattle.plain_fj.specs.Breaking.{Adds};
 ghost use Rattle.plain_fj.specs.Found.{IsNameJudged, at_nodes};

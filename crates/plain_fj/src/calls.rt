@@ -1,3 +1,5 @@
+//! The rules of a call.
+
 ghost use Rattle.std.specs.Prelude.{◌≡◌, IfOk, List, length};
 ghost use Rattle.std.specs.Option.{ForSome};
 ghost use Rattle.cfj_model.specs.declared.expr.Expr.{Expr};

@@ -1,3 +1,5 @@
+//! The classes of a project by their names.
+
 ghost use Rattle.std.specs.Prelude.{◌≡◌, IfOk, length};
 ghost use Rattle.std.specs.Option.{option_copied};
 ghost use Rattle.cfj_model.specs.LookUps as spec;

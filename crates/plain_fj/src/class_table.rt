@@ -1,3 +1,5 @@
+//! Class tables: subtypes, and fields and methods along chains of superclasses.
+
 ghost use Rattle.std.specs.Prelude.{◌≡◌, [], IfOk};
 ghost use Rattle.std.specs.Option.{option_copied};
 ghost use Rattle.std.specs.List.{list_any};

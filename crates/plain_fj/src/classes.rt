@@ -1,3 +1,5 @@
+//! The rules of a class and of what it declares.
+
 ghost use Rattle.std.specs.Prelude.{◌≡◌, IfOk, OnOk};
 ghost use Rattle.cfj_model.specs.Judging.{judged_class};
 ghost use Rattle.cfj_model.specs.LookUps as spec;

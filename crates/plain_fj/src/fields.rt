@@ -1,3 +1,5 @@
+//! The rules of fields.
+
 ghost use Rattle.std.specs.Prelude.{◌≡◌, OnOk, flat_map};
 ghost use Rattle.cfj_model.specs.Judging.{judged_field};
 ghost use Rattle.cfj_model.specs.LookUps as spec;

@@ -1,3 +1,5 @@
+//! Expressions, node by node.
+
 ghost use Rattle.std.specs.Prelude.{IfOk};
 ghost use Rattle.plain_fj.specs.Found.{AreJudged, IsJudged};
 

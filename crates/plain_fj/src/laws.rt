@@ -1,3 +1,5 @@
+//! A law over the definitions alone.
+
 ghost use Rattle.std.specs.Prelude.{◌≡◌, ◌↔◌, None};
 ghost use Rattle.cfj_model.specs.Judging.{first_breaking};
 ghost use Rattle.cfj_model.specs.Typing.{IsWellTyped};

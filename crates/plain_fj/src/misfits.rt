@@ -1,3 +1,5 @@
+//! Arguments that have no subtype of what is wanted at their places.
+
 ghost use Rattle.std.specs.Prelude.{◌≡◌, IfOk, OnOk, length, not, [], ◌∷◌};
 ghost use Rattle.std.specs.List.{list_any};
 ghost use Rattle.cfj_model.specs.Judging.{misfits};

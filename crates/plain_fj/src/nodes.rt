@@ -1,3 +1,5 @@
+//! The rules of variables, field accesses and casts.
+
 ghost use Rattle.std.specs.Prelude.{◌≡◌, ◌||◌, IfOk, List, find};
 ghost use Rattle.std.specs.Option.{option_copied};
 ghost use Rattle.std.specs.Str.{bytes_eq};

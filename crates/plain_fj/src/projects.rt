@@ -1,8 +1,10 @@
+//! The rules of a whole project.
+
 ghost use Rattle.std.specs.Prelude.{◌≡◌, ◌↔◌, None, IfOk, map};
 ghost use Rattle.cfj_model.specs.Judging.{Breaks, first_breaking};
 ghost use Rattle.cfj_model.specs.ProductLines.{IsProject};
 ghost use Rattle.cfj_model.specs.Typing.{IsWellTyped};
-ghost use Rattle.cfj_model.specs.UnitClauses.{Has};
+ghost use Rattle.cfj_words.specs.Lists.{Has};
 ghost use Rattle.cfj_model.specs.declared.site.Rule.{Rule};
 ghost use Rattle.cfj_model.specs.declared.site.Site.{Site};
 ghost use Rattle.plain_fj.specs.Breaking.{breaking, told};
@@ -30,6 +32,26 @@ fn judge_project<'a>(
     Ok(breaks)
 }
 
+/// The breaks of a project, by a table of its own.
+fn breaks_of<'a>(alloc: Global, project: &'a Project) -> Result<Vec<Break<'a>>, AllocError>
+    ensures found { IfOk result (λ found. map told found.items ≡ breaking project.now.classes) }
+    ensures kept { IfOk result (λ _. IsProject project.now) }
+{
+    let table = ClassTable::of(alloc, project)?;
+    judge_project(alloc, &table, project)
+}
+
+/// The pairs that these breaks are.
+fn pairs_of(alloc: Global, breaks: &[Break<'_>]) -> Result<Vec<(Site, Rule)>, AllocError>
+    ensures { IfOk result (λ pairs. pairs.items ≡ map told breaks.now) }
+{
+    let mut pairs: Vec<(Site, Rule)> = Vec::new(alloc);
+    'each: for found in breaks {
+        pairs.push(found.pair(alloc)?)?;
+    }
+    Ok(pairs)
+}
+
 /// Each site of a project at which a rule of Featherweight Java breaks, and the rule: in the order of the text, and at one site in the
 /// order of the rules (Igarashi, Pierce, Wadler, TOPLAS 23(3), 2001).
 ///
@@ -38,12 +60,8 @@ pub fn every_break(alloc: Global, project: &Project) -> Result<Vec<(Site, Rule)>
     ensures found { IfOk result (λ found. found.items ≡ breaking project.now.classes) }
     ensures each { IfOk result (λ found. (s : Site) (r : Rule) → Breaks project.now.classes s r ↔ Has found.items (s, r)) }
 {
-    let table = ClassTable::of(alloc, project)?;
-    let breaks = judge_project(alloc, &table, project)?;
-    let mut pairs: Vec<(Site, Rule)> = Vec::new(alloc);
-    'each: for found in breaks.as_slice() {
-        pairs.push(found.pair(alloc)?)?;
-    }
+    let breaks = breaks_of(alloc, project)?;
+    let pairs = pairs_of(alloc, breaks.as_slice())?;
     Ok(pairs)
 }
 
@@ -55,8 +73,7 @@ pub fn first_break(alloc: Global, project: &Project) -> Result<Option<(Site, Rul
     ensures first { IfOk result (λ found. found ≡ first_breaking project.now.classes) }
     ensures typed { IfOk result (λ found. IsWellTyped project.now.classes ↔ (found ≡ None)) }
 {
-    let table = ClassTable::of(alloc, project)?;
-    let breaks = judge_project(alloc, &table, project)?;
+    let breaks = breaks_of(alloc, project)?;
     match breaks.as_slice().first() {
         Some(found) => {
             let pair = found.pair(alloc)?;

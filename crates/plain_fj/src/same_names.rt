@@ -1,3 +1,5 @@
+//! Lists of names, compared in order.
+
 ghost use Rattle.std.specs.Prelude.{◌≡◌, IfOk, OnOk, ◌++◌, map};
 ghost use Rattle.cfj_model.specs.Judging as spec;
 ghost use Rattle.cfj_model.specs.LookUps.{fields_of};

@@ -1,3 +1,5 @@
+//! A rule that breaks at a site.
+
 ghost use Rattle.std.specs.Prelude.{◌≡◌, [], ◌∷◌, IfOk, OnOk};
 ghost use Rattle.cfj_model.specs.Judging.{judged_at};
 ghost use Rattle.cfj_model.specs.Sites.{site_ref_seen};
@@ -20,7 +22,7 @@ impl Break<'_> {
     pub fn pair(&self, alloc: Global) -> Result<(Site, Rule), AllocError>
         ensures { IfOk result (λ pair. pair ≡ told self.now) }
     {
-        let site = kept(alloc, self.site)?;
+        let site = self.site.to_site(alloc)?;
         Ok((site, self.rule))
     }
 }
@@ -38,30 +40,4 @@ pub fn note<'a>(
         breaks.push(Break { site, rule })?;
     }
     Ok(())
-}
-
-/// The site that a reference names, over names in memory of its own.
-fn kept(alloc: Global, site: SiteRef<'_>) -> Result<Site, AllocError>
-    ensures { IfOk result (λ kept. kept ≡ site_ref_seen site.entry) }
-{
-    Ok(match site {
-        SiteRef::Model => Site::Model,
-        SiteRef::Class(class) => Site::Class(class.copy(alloc)?),
-        SiteRef::Field(class, field, alt) => {
-            Site::Field(class.copy(alloc)?, field.copy(alloc)?, alt)
-        }
-        SiteRef::Ctor(class) => Site::Ctor(class.copy(alloc)?),
-        SiteRef::CtorParam(class, slot) => Site::CtorParam(class.copy(alloc)?, slot),
-        SiteRef::SuperArg(class, slot) => Site::SuperArg(class.copy(alloc)?, slot),
-        SiteRef::Assign(class, slot) => Site::Assign(class.copy(alloc)?, slot),
-        SiteRef::Method(class, method, alt) => {
-            Site::Method(class.copy(alloc)?, method.copy(alloc)?, alt)
-        }
-        SiteRef::Param(class, method, alt, slot) => {
-            Site::Param(class.copy(alloc)?, method.copy(alloc)?, alt, slot)
-        }
-        SiteRef::Node(class, method, alt, slot) => {
-            Site::Node(class.copy(alloc)?, method.copy(alloc)?, alt, slot)
-        }
-    })
 }

@@ -1,3 +1,5 @@
+//! The types that are wanted of arguments.
+
 ghost use Rattle.std.specs.Prelude.{◌≡◌, IfOk, OnOk, ◌++◌, map};
 ghost use Rattle.cfj_model.specs.LookUps.{fields_of};
 ghost use Rattle.cfj_model.specs.Typing as typing;

@@ -4,8 +4,8 @@ use Rattle.std.specs.Int.{bit_at}
 use Rattle.std.proofs.lemmas.Bool.{both_ways, cases_lt, eqb-true, eq-eqb, ne_eqb}
 use Rattle.std.proofs.lemmas.Bool.Decides.{eqb_tells}
 use Rattle.std.proofs.lemmas.Nat.Bits.{bit_at-lt, bit_at-zero, bit_at_above, bit_at_and, bit_at_ones, bit_at_ones_above, bit_at_xor, same_from_bits}
-use Rattle.cfj_model.specs.Selections.{Chosen, has_bit, is_on}
-use Rattle.cfj_model.proofs.FeatureBits.{apart}
+use Rattle.cfj_logic.specs.Selections.{Chosen, has_bit, is_on}
+use Rattle.cfj_logic.proofs.FeatureBits.{apart}
 use Rattle.plain_judge.specs.Denials.{lacking}
 
 -- bits are the same where they are 1 together

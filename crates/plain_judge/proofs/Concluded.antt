@@ -4,9 +4,9 @@ use Rattle.std.specs.List.{cons_option, filter_map}
 use Rattle.std.proofs.lemmas.Bool.{and_parts, ltb-true}
 use Rattle.cfj_model.specs.Judging.{Pair}
 use Rattle.cfj_model.specs.ProductLines.{ProductLine}
-use Rattle.cfj_model.specs.Selections.{Chosen}
-use Rattle.cfj_model.specs.Sides.{Sides, empty_clause}
-use Rattle.cfj_model.specs.UnitClauses.{Has}
+use Rattle.cfj_logic.specs.Selections.{Chosen}
+use Rattle.cfj_logic.specs.Sides.{Sides, empty_clause}
+use Rattle.cfj_words.specs.Lists.{Has}
 use Rattle.unit_facts.specs.Diagnostics.{Always, AreExact, BreaksIn, IsChecked, IsLeast, IsNever, IsRight, IsSpent, IsValidFor}
 use Rattle.unit_facts.specs.declared.entry.Entry.{Entry}
 use Rattle.unit_facts.specs.declared.entry.Entry.TheVariants as entry

@@ -1,7 +1,7 @@
 -- Questions that consider a selection one after another, in place.
 use Rattle.std.proofs.Common.{◌≡◌, ℕ, zero, suc, ◌+◌, ◌<◌, ◌≤◌, List, [], ◌∷◌, length, take, drop, set, get_or, refl, sym, subst, add-one, arith}
 use Rattle.cfj_model.specs.Judging.{Pair}
-use Rattle.cfj_model.specs.Selections.{Chosen}
+use Rattle.cfj_logic.specs.Selections.{Chosen}
 use Rattle.plain_judge.specs.Questions.{AreConsidered, IsConsidered}
 use Rattle.plain_judge.specs.declared.question.Question.{Question}
 

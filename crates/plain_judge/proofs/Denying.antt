@@ -1,8 +1,8 @@
 -- The two sets of the clause that denies a selection, made feature by feature.
 use Rattle.std.proofs.Common.{◌≡◌, ℕ, ◌+◌, ◌^◌, ◌<◌, ◌≤◌, Bool, true, false, not, ◌⊎◌, inl, inr, bit_or, sym, ◌∙◌, ap, arith}
 use Rattle.std.proofs.lemmas.Bool.{cases_lt, cases_eq}
-use Rattle.cfj_model.specs.Selections.{Chosen, has_bit, is_on}
-use Rattle.cfj_model.proofs.FeatureBits.{has_bit_same, has_bit_other, has_bit_none}
+use Rattle.cfj_logic.specs.Selections.{Chosen, has_bit, is_on}
+use Rattle.cfj_logic.proofs.FeatureBits.{has_bit_same, has_bit_other, has_bit_none}
 use Rattle.plain_judge.specs.Denials.{lacking}
 use Rattle.plain_judge.proofs.Bits.{lacking_has, lacking_past, none_past, same_from_members}
 

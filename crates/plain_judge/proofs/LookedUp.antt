@@ -5,7 +5,7 @@ use Rattle.std.specs.List.{list_any}
 use Rattle.std.proofs.lemmas.List.{take_all}
 use Rattle.indexmap.specs.IndexSet.{insert_key}
 use Rattle.cfj_model.specs.Judging.{Pair}
-use Rattle.cfj_model.specs.UnitClauses.{Has}
+use Rattle.cfj_words.specs.Lists.{Has}
 use Rattle.cfj_model.specs.declared.site.Rule.{Rule}
 use Rattle.plain_fj.proofs.Members.{has_none, has_rest, has_left, has_right, has_either}
 use Rattle.plain_fj.proofs.TypeLists.{take_more}

@@ -3,8 +3,8 @@ use Rattle.std.proofs.Common.{◌≡◌, ℕ, ◌+◌, ◌-◌, ◌^◌, ◌<◌
 use Rattle.std.proofs.lemmas.Bool.{cases_eq}
 use Rattle.std.proofs.lemmas.Nat.{or_lt, pow_pos}
 use Rattle.std.proofs.Math.Pow.{pow-lt}
-use Rattle.cfj_model.specs.Selections.{Chosen, has_bit, is_on}
-use Rattle.cfj_model.proofs.FeatureBits.{has_bit_same, has_bit_other, has_bit_none}
+use Rattle.cfj_logic.specs.Selections.{Chosen, has_bit, is_on}
+use Rattle.cfj_logic.proofs.FeatureBits.{has_bit_same, has_bit_other, has_bit_none}
 use Rattle.plain_judge.specs.Order.{mirrored, nth}
 use Rattle.plain_judge.proofs.Mirrors.{mirrored_below, mirrored_bit}
 use Rattle.plain_judge.proofs.Bits.{same_from_features}

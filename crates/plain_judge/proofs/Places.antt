@@ -5,7 +5,7 @@ use Rattle.std.proofs.lemmas.Bool.{cases_lt, eqb-true}
 use Rattle.std.proofs.lemmas.Nat.{pow_pos, shr-shr, le-div}
 use Rattle.std.proofs.lemmas.Nat.Bits.{bit_at-lt, bit_at_above, same_from_bits}
 use Rattle.std.proofs.Math.Nat.{div-mul-le_self}
-use Rattle.cfj_model.specs.Selections.{Chosen, IsEarlier}
+use Rattle.cfj_logic.specs.Selections.{Chosen, IsEarlier}
 use Rattle.plain_judge.specs.Order.{mirrored, nth}
 use Rattle.plain_judge.proofs.Bits.{no_bit, same_bit}
 use Rattle.plain_judge.proofs.Mirrors.{mirrored_bit, mirrored_twice}

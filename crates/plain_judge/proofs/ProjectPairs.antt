@@ -1,11 +1,11 @@
 -- The pairs that are listed node by node are those that the rules are judged at.
-use Rattle.std.proofs.Common.{◌≡◌, ℕ, Bool, false, not, ◌&&◌, List, [], ◌∷◌, ◌++◌, map, append-nil, Option, is_some, option_map, refl, sym, ◌∙◌, ap}
+use Rattle.std.proofs.Common.{◌≡◌, ℕ, nat_lt, Bool, true, false, not, ◌&&◌, cond, List, [], ◌∷◌, ◌++◌, map, append-nil, Option, is_some, option_map, refl, sym, ◌∙◌, ap}
 use Rattle.std.specs.List.{flat_map}
 use Rattle.std.proofs.lemmas.Grind.{flat_map-append}
 use Rattle.std.proofs.lemmas.List.{map-append}
 use Rattle.std.proofs.lemmas.List.Folds.{flat_map-map}
 use Rattle.cfj_model.proofs.ExprCases.{Proved, args_of, by_cases, fold_var, fold_get, fold_call, fold_new, fold_cast, of_arg}
-use Rattle.cfj_model.specs.Judging.{Judged, JudgedExpr, Pair, Verdict, argument_rules, environment_of, judged, judged_arg, judged_at, judged_class, judged_ctor, judged_expr, judged_field, judged_method, judged_step, pair_of, pairs_of, Fit, accessed, called, field_types, fit_of, types_of}
+use Rattle.cfj_model.specs.Judging.{RuleAt, JudgedExpr, Pair, Ruling, argument_rules, environment_of, judged, judged_arg, judged_at, judged_class, judged_ctor, judged_expr, judged_field, judged_method, judged_step, pair_of, pairs_of, Fit, accessed, called, field_types, fit_of, types_of, insert_ranked, is_unrelated, rank, with_ruling}
 use Rattle.cfj_model.specs.LookUps.{Table, is_known}
 use Rattle.cfj_model.specs.Typing.{Environment, param_types}
 use Rattle.cfj_model.specs.declared.class.Class.{Class}
@@ -41,47 +41,57 @@ module _ (at : ℕ → Site) where
       ap (λ f. f more) (fold_call (List Rule → List Pair) (List Rule → List Pair) (node_pairs_step at) (λ a. a.expr) slot on method args)
       ∙ ap (λ ps. node_pairs at on [] ++ (pairs_at (at slot) (E3 ∷ (E4 ∷ more)) ++ ps)) (args_are E5 args)
 
-  pub node_new : (slot : ℕ) (class : List ℕ) (args : List Arg) (more : List Rule) → node_pairs at (e.New slot class args) more ≡ pairs_at (at slot) (K1 ∷ (E6 ∷ more)) ++ arg_pairs at E7 args
+  pub node_new : (slot : ℕ) (class : List ℕ) (args : List Arg) (more : List Rule) → node_pairs at (e.New slot class args) more ≡ pairs_at (at slot) (K1 ∷ insert_ranked rank E6 more) ++ arg_pairs at E7 args
   node_new slot class args more =
       ap (λ f. f more) (fold_new (List Rule → List Pair) (List Rule → List Pair) (node_pairs_step at) (λ a. a.expr) slot class args)
-      ∙ ap (λ ps. pairs_at (at slot) (K1 ∷ (E6 ∷ more)) ++ ps) (args_are E7 args)
+      ∙ ap (λ ps. pairs_at (at slot) (K1 ∷ insert_ranked rank E6 more) ++ ps) (args_are E7 args)
 
-  pub node_cast : (slot : ℕ) (class : List ℕ) (on : Expr) (more : List Rule) → node_pairs at (e.Cast slot class on) more ≡ pairs_at (at slot) (K1 ∷ (E8 ∷ more)) ++ node_pairs at on []
+  pub node_cast : (slot : ℕ) (class : List ℕ) (on : Expr) (more : List Rule) → node_pairs at (e.Cast slot class on) more ≡ pairs_at (at slot) (K1 ∷ insert_ranked rank E8 more) ++ node_pairs at on []
   node_cast slot class on more = ap (λ f. f more) (fold_cast (List Rule → List Pair) (List Rule → List Pair) (node_pairs_step at) (λ a. a.expr) slot class on)
 
 -- ---- what is judged at a site, at items and at nodes
 
-judged_pairs : (s : Site) (vs : List Verdict) → map pair_of (judged_at s vs) ≡ pairs_at s (map (λ v. v.0) vs)
+-- the rules with one more ruling
+rules_with : (v : Ruling) (vs : List Ruling) → map (λ v. v.0) (with_ruling v vs) ≡ insert_ranked rank v.0 (map (λ v. v.0) vs)
+rules_with v [] = refl
+rules_with v (w ∷ ws) = go (nat_lt (rank w.0) (rank v.0)) (rules_with v ws)
+  where
+    go : (b : Bool) → map (λ v. v.0) (with_ruling v ws) ≡ insert_ranked rank v.0 (map (λ v. v.0) ws)
+        → map (λ v. v.0) (cond b (w ∷ with_ruling v ws) (v ∷ (w ∷ ws))) ≡ cond b (w.0 ∷ insert_ranked rank v.0 (map (λ v. v.0) ws)) (v.0 ∷ (w.0 ∷ map (λ v. v.0) ws))
+    go true ih = ap (λ rs. w.0 ∷ rs) ih
+    go false ih = refl
+
+judged_pairs : (s : Site) (vs : List Ruling) → map pair_of (judged_at s vs) ≡ pairs_at s (map (λ v. v.0) vs)
 judged_pairs s [] = refl
 judged_pairs s (v ∷ vs) = ap (λ ps. (s, v.0) ∷ ps) (judged_pairs s vs)
 
-pairs_append : (js ks : List Judged) (ps qs : List Pair) → map pair_of js ≡ ps → map pair_of ks ≡ qs → map pair_of (js ++ ks) ≡ ps ++ qs
+pairs_append : (js ks : List RuleAt) (ps qs : List Pair) → map pair_of js ≡ ps → map pair_of ks ≡ qs → map pair_of (js ++ ks) ≡ ps ++ qs
 pairs_append js ks ps qs first then = map-append pair_of js ks ∙ ap (λ z. z ++ map pair_of ks) first ∙ ap (λ z. ps ++ z) then
 
-item_pairs : {A : Type 0} (of : A → List Judged) (pairs : A → List Pair) → ((x : A) → map pair_of (of x) ≡ pairs x) → (xs : List A) → map pair_of (flat_map of xs) ≡ flat_map pairs xs
+item_pairs : {A : Type 0} (of : A → List RuleAt) (pairs : A → List Pair) → ((x : A) → map pair_of (of x) ≡ pairs x) → (xs : List A) → map pair_of (flat_map of xs) ≡ flat_map pairs xs
 item_pairs of pairs each [] = refl
 item_pairs of pairs each (x ∷ xs) = pairs_append (of x) (flat_map of xs) (pairs x) (flat_map pairs xs) (each x) (item_pairs of pairs each xs)
 
 module _ (at : ℕ → Site) (p : Table) (g : Environment) where
   -- the pairs of what is judged at nodes, by slot
-  abbrev slot_pairs : List (ℕ × List Verdict) → List Pair
+  abbrev slot_pairs : List (ℕ × List Ruling) → List Pair
   slot_pairs ns = map pair_of (flat_map (λ n. judged_at (at n.0) n.1) ns)
 
-  slots_then : (ns ms : List (ℕ × List Verdict)) (ps qs : List Pair) → slot_pairs ns ≡ ps → slot_pairs ms ≡ qs → slot_pairs (ns ++ ms) ≡ ps ++ qs
+  slots_then : (ns ms : List (ℕ × List Ruling)) (ps qs : List Pair) → slot_pairs ns ≡ ps → slot_pairs ms ≡ qs → slot_pairs (ns ++ ms) ≡ ps ++ qs
   slots_then ns ms ps qs first then =
       ap (map pair_of) (flat_map-append (λ n. judged_at (at n.0) n.1) ns ms)
       ∙ pairs_append (flat_map (λ n. judged_at (at n.0) n.1) ns) (flat_map (λ n. judged_at (at n.0) n.1) ms) ps qs first then
 
-  slot_then : (slot : ℕ) (vs : List Verdict) (ms : List (ℕ × List Verdict)) (qs : List Pair) → slot_pairs ms ≡ qs → slot_pairs ((slot, vs) ∷ ms) ≡ pairs_at (at slot) (map (λ v. v.0) vs) ++ qs
+  slot_then : (slot : ℕ) (vs : List Ruling) (ms : List (ℕ × List Ruling)) (qs : List Pair) → slot_pairs ms ≡ qs → slot_pairs ((slot, vs) ∷ ms) ≡ pairs_at (at slot) (map (λ v. v.0) vs) ++ qs
   slot_then slot vs ms qs then =
       pairs_append (judged_at (at slot) vs) (flat_map (λ n. judged_at (at n.0) n.1) ms) (pairs_at (at slot) (map (λ v. v.0) vs)) qs (judged_pairs (at slot) vs) then
 
-  slot_alone : (slot : ℕ) (vs : List Verdict) → slot_pairs ((slot, vs) ∷ []) ≡ pairs_at (at slot) (map (λ v. v.0) vs)
+  slot_alone : (slot : ℕ) (vs : List Ruling) → slot_pairs ((slot, vs) ∷ []) ≡ pairs_at (at slot) (map (λ v. v.0) vs)
   slot_alone slot vs = slot_then slot vs [] [] refl ∙ append-nil (pairs_at (at slot) (map (λ v. v.0) vs))
 
   -- the pairs of what is judged in an expression are listed, whatever is judged there
   abbrev IsListed : Expr → Type 0
-  IsListed x = (more : List Verdict) → slot_pairs ((judged_expr p g x).rules more) ≡ node_pairs at x (map (λ v. v.0) more)
+  IsListed x = (more : List Ruling) → slot_pairs ((judged_expr p g x).rules more) ≡ node_pairs at x (map (λ v. v.0) more)
 
   abbrev judged_of : Arg → JudgedExpr
   judged_of = of_arg JudgedExpr JudgedExpr (judged_step p g) judged_arg
@@ -117,7 +127,7 @@ module _ (at : ℕ → Site) (p : Table) (g : Environment) where
       let ts : Option (List (List ℕ)) = types_of (map (λ a. a.type) args) in
       let d : Option Method = called p j.type ts method in
       let f : Fit = fit_of p args ts (option_map (λ (d : Method). param_types d.params) d) in
-      let ms : List (ℕ × List Verdict) = argument_rules E5 args f.misfits in
+      let ms : List (ℕ × List Ruling) = argument_rules E5 args f.misfits in
       ap (λ j. slot_pairs (j.rules more)) (fold_call JudgedExpr JudgedExpr (judged_step p g) judged_arg slot on method (args_of IsListed ys))
       ∙ slots_then (j.rules []) ((slot, (E3, is_some j.type && is_some ts && not (is_some d)) ∷ ((E4, f.differs) ∷ more)) ∷ ms) (node_pairs at on [])
       (pairs_at (at slot) (E3 ∷ (E4 ∷ map (λ v. v.0) more)) ++ arg_pairs at E5 (args_of IsListed ys)) (listed [])
@@ -129,13 +139,15 @@ module _ (at : ℕ → Site) (p : Table) (g : Environment) where
       let args : List JudgedExpr = map judged_of (args_of IsListed ys) in
       let f : Fit = fit_of p args (types_of (map (λ a. a.type) args)) (field_types p class) in
       ap (λ j. slot_pairs (j.rules more)) (fold_new JudgedExpr JudgedExpr (judged_step p g) judged_arg slot class (args_of IsListed ys))
-      ∙ ap (λ z. (at slot, K1) ∷ ((at slot, E6) ∷ z)) (slot_then slot more (argument_rules E7 args f.misfits) (arg_pairs at E7 (args_of IsListed ys)) (args_listed E7 ys f.misfits))
+      ∙ slot_then slot ((K1, not (is_known p class)) ∷ with_ruling (E6, f.differs) more) (argument_rules E7 args f.misfits) (arg_pairs at E7 (args_of IsListed ys)) (args_listed E7 ys f.misfits)
+      ∙ ap (λ rs. pairs_at (at slot) (K1 ∷ rs) ++ arg_pairs at E7 (args_of IsListed ys)) (rules_with (E6, f.differs) more)
       ∙ sym (node_new at slot class (args_of IsListed ys) (map (λ v. v.0) more))
 
   cast_listed : (slot : ℕ) (class : List ℕ) (on : Expr) → IsListed on → IsListed (e.Cast slot class on)
   cast_listed slot class on listed more =
       ap (λ j. slot_pairs (j.rules more)) (fold_cast JudgedExpr JudgedExpr (judged_step p g) judged_arg slot class on)
-      ∙ ap (λ z. (at slot, K1) ∷ ((at slot, E8) ∷ z)) (slot_then slot more ((judged_expr p g on).rules []) (node_pairs at on []) (listed []))
+      ∙ slot_then slot ((K1, not (is_known p class)) ∷ with_ruling (E8, is_unrelated p (judged_expr p g on).type class) more) ((judged_expr p g on).rules []) (node_pairs at on []) (listed [])
+      ∙ ap (λ rs. pairs_at (at slot) (K1 ∷ rs) ++ node_pairs at on []) (rules_with (E8, is_unrelated p (judged_expr p g on).type class) more)
       ∙ sym (node_cast at slot class on (map (λ v. v.0) more))
 
   nodes_listed : (x : Expr) → IsListed x

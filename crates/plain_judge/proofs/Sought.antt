@@ -2,14 +2,14 @@
 use Rattle.std.proofs.Common.{◌≡◌, ℕ, zero, suc, ◌+◌, ◌^◌, ◌<◌, ◌≤◌, true, false, ◌⊎◌, inl, inr, List, [], ◌∷◌, ◌++◌, length, map, slice_get, Option, Some, None, refl, sym, ◌∙◌, ap, subst, add-one, arith}
 use Rattle.std.specs.Prelude.{◌↔◌, is_some}
 use Rattle.std.proofs.lemmas.Bool.{and_parts, both_ways, cases_lt}
-use Rattle.cfj_model.specs.Formulas.{truth}
+use Rattle.cfj_logic.specs.Formulas.{truth}
 use Rattle.cfj_model.specs.Judging.{Pair, pairs_of}
 use Rattle.cfj_model.specs.ProductLines.{ProductLine}
-use Rattle.cfj_model.specs.Selections.{Chosen, IsEarlier}
-use Rattle.cfj_model.specs.Sides.{Sides}
-use Rattle.cfj_model.specs.UnitClauses.{Has}
-use Rattle.cfj_model.specs.Validity.{IsValid, IsFirstFalse}
-use Rattle.cfj_model.specs.declared.formula.Formula.{Formula}
+use Rattle.cfj_logic.specs.Selections.{Chosen, IsEarlier}
+use Rattle.cfj_logic.specs.Sides.{Sides}
+use Rattle.cfj_words.specs.Lists.{Has}
+use Rattle.cfj_logic.specs.Validity.{IsValid, IsFirstFalse}
+use Rattle.cfj_logic.specs.declared.formula.Formula.{Formula}
 use Rattle.unit_facts.specs.Diagnostics.{Always, BreaksIn, IsLeast, IsValidFor}
 use Rattle.plain_judge.specs.Denials.{denial, denials}
 use Rattle.plain_judge.specs.Order.{mirrored, nth}

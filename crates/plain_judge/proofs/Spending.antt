@@ -6,9 +6,9 @@ use Rattle.std.proofs.lemmas.List.{length_push}
 use Rattle.std.proofs.lemmas.List.Folds.{list_all-append}
 use Rattle.std.proofs.lemmas.Nat.{xor_lt, pow_pos}
 use Rattle.cfj_model.specs.ProductLines.{ProductLine}
-use Rattle.cfj_model.specs.Selections.{Chosen, has_bit, is_subset}
-use Rattle.cfj_model.specs.Sides.{Sides, is_empty, is_over, is_within}
-use Rattle.cfj_model.proofs.FeatureBits.{subset_has, has_bit_none}
+use Rattle.cfj_logic.specs.Selections.{Chosen, has_bit, is_subset}
+use Rattle.cfj_logic.specs.Sides.{Sides, is_empty, is_over, is_within}
+use Rattle.cfj_logic.proofs.FeatureBits.{subset_has, has_bit_none}
 use Rattle.unit_facts.specs.Diagnostics.{IsSpent, IsValidFor, are_fresh, is_simple, satisfies}
 use Rattle.plain_judge.specs.Denials.{denial, denials, lacking}
 use Rattle.plain_judge.specs.Order.{mirrored, nth}

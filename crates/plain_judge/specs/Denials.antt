@@ -1,7 +1,7 @@
 -- The clauses that deny the first selections in order.
 use Rattle.std.specs.Prelude.{ℕ, zero, suc, ◌-◌, ◌^◌, List, [], ◌∷◌, ◌++◌, bit_xor}
-use Rattle.cfj_model.specs.Selections.{Chosen}
-use Rattle.cfj_model.specs.Sides.{Sides}
+use Rattle.cfj_logic.specs.Selections.{Chosen}
+use Rattle.cfj_logic.specs.Sides.{Sides}
 use Rattle.plain_judge.specs.Order.{nth}
 
 -- the features that a selection lacks

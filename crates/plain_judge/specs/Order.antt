@@ -1,7 +1,7 @@
 -- The selections of so many features by their places in order.
 use Rattle.std.specs.Prelude.{ℕ, zero, suc, ◌+◌, ◌*◌}
 use Rattle.std.specs.Int.{bit_at}
-use Rattle.cfj_model.specs.Selections.{Chosen}
+use Rattle.cfj_logic.specs.Selections.{Chosen}
 
 -- the number whose lowest `n` bits are those of `j`, the other way round
 abbrev pub mirrored : ℕ → ℕ → ℕ

@@ -1,7 +1,7 @@
 -- The parts of pairs of a site and a rule, by which they are looked up.
 use Rattle.std.specs.Prelude.{◌↔◌, List, map}
 use Rattle.cfj_model.specs.Judging.{Pair}
-use Rattle.cfj_model.specs.UnitClauses.{Has}
+use Rattle.cfj_words.specs.Lists.{Has}
 use Rattle.cfj_model.specs.declared.site.Rule.{Rule}
 use Rattle.plain_judge.specs.SiteParts.{SiteParts, parts_of, seen}
 use Rattle.plain_judge.specs.declared.breaks.PairParts.{PairParts}

@@ -2,8 +2,8 @@
 use Rattle.std.specs.Prelude.{◌≡◌, List, [], ◌∷◌, Option, Some, None, is_some, Bool}
 use Rattle.std.specs.List.{list_all}
 use Rattle.cfj_model.specs.Judging.{Pair}
-use Rattle.cfj_model.specs.Selections.{Chosen}
-use Rattle.cfj_model.specs.UnitClauses.{Has}
+use Rattle.cfj_logic.specs.Selections.{Chosen}
+use Rattle.cfj_words.specs.Lists.{Has}
 use Rattle.plain_judge.specs.declared.question.Question.{Question}
 
 -- the pair that a question is about

@@ -2,8 +2,8 @@
 use Rattle.std.specs.Prelude.{◌≡◌, ◌↔◌, ℕ, ◌<◌, ◌&&◌, Bool, List, [], ◌∷◌, length, map, Option, Some, None, is_some}
 use Rattle.cfj_model.specs.Judging.{Pair, pairs_of}
 use Rattle.cfj_model.specs.ProductLines.{ProductLine}
-use Rattle.cfj_model.specs.Selections.{Chosen}
-use Rattle.cfj_model.specs.UnitClauses.{Has}
+use Rattle.cfj_logic.specs.Selections.{Chosen}
+use Rattle.cfj_words.specs.Lists.{Has}
 use Rattle.unit_facts.specs.Diagnostics.{Always, BreaksIn, IsLeast, IsValidFor}
 use Rattle.plain_judge.specs.Denials.{denials}
 use Rattle.plain_judge.specs.Order.{nth}

@@ -1,5 +1,7 @@
+//! The pairs that break in one variant, looked up by site and rule.
+
 ghost use Rattle.std.specs.Prelude.{◌≡◌, ◌↔◌, IsTrue, IfOk};
-ghost use Rattle.cfj_model.specs.UnitClauses.{Has};
+ghost use Rattle.cfj_words.specs.Lists.{Has};
 ghost use Rattle.plain_judge.specs.PairParts.{IsSetOf, pair_parts, seen_pair};
 
 use crate::site_parts::{Parts, read_parts};

@@ -1,3 +1,5 @@
+//! The clause that denies a selection.
+
 ghost use Rattle.std.specs.Prelude.{◌≡◌};
 ghost use Rattle.plain_judge.specs.Denials.{denial};
 

@@ -1,3 +1,5 @@
+//! Entries and a verdict, of what a search found.
+
 ghost use Rattle.std.specs.Prelude.{◌≡◌, ◌++◌, IfOk, OnOk, option_to_list};
 ghost use Rattle.std.specs.List.{filter_map};
 ghost use Rattle.plain_judge.specs.Concluding as spec;

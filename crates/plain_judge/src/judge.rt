@@ -1,3 +1,5 @@
+//! The check of a product line.
+
 ghost use Rattle.std.specs.Prelude.{◌≡◌, ◌^◌, ◌≤◌, nat_lt, IfOk, length};
 ghost use Rattle.unit_facts.specs.Diagnostics.{IsChecked};
 ghost use Rattle.plain_judge.specs.Concluding.{IsDone};

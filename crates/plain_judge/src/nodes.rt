@@ -1,3 +1,5 @@
+//! The rules at the nodes of an expression.
+
 ghost use Rattle.std.specs.Prelude.{◌≡◌, ◌++◌, IfOk, OnOk};
 ghost use Rattle.plain_judge.specs.BodySites.{node_site};
 ghost use Rattle.plain_judge.specs.Pairs.{arg_pairs, node_pairs, pairs_at};
@@ -6,7 +8,7 @@ use crate::body::Body;
 use cfj_model::{Arg, Expr, Rule, Site};
 use std::alloc::{AllocError, Global};
 
-/// Adds the rules at the nodes of an expression. Behind those of its root come the ones that the node round it judges there.
+/// Adds the rules at the nodes of an expression. Among those of its root are the ones that the node round it judges there.
 #[cycle(nodes)]
 pub fn add_nodes(
     body: &Body<'_>,
@@ -28,11 +30,11 @@ pub fn add_nodes(
             add_args(body, pairs, args.slice(), Rule::E5)
         }
         Expr::New { slot, args, .. } => {
-            body.add(pairs, *slot, &[Rule::K1, Rule::E6], more)?;
+            body.add_among(pairs, *slot, Rule::K1, Rule::E6, more)?;
             add_args(body, pairs, args.slice(), Rule::E7)
         }
         Expr::Cast { slot, on, .. } => {
-            body.add(pairs, *slot, &[Rule::K1, Rule::E8], more)?;
+            body.add_among(pairs, *slot, Rule::K1, Rule::E8, more)?;
             add_nodes(body, pairs, on.get(), &[])
         }
     }

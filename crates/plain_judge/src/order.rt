@@ -1,5 +1,7 @@
+//! The selections in order.
+
 ghost use Rattle.std.specs.Prelude.{◌≡◌, ◌^◌, ◌<◌, ◌≤◌};
-ghost use Rattle.cfj_model.specs.Selections.{has_bit};
+ghost use Rattle.cfj_logic.specs.Selections.{has_bit};
 ghost use Rattle.plain_judge.specs.Order.{nth};
 
 use cfj_model::Selection;

@@ -1,3 +1,5 @@
+//! The pairs of a site and a rule of a project.
+
 ghost use Rattle.std.specs.Prelude.{◌≡◌, ◌++◌, [], IfOk, OnOk, flat_map};
 ghost use Rattle.cfj_model.specs.Judging.{pairs_of};
 ghost use Rattle.plain_judge.specs.Pairs as spec;
@@ -5,7 +7,7 @@ ghost use Rattle.plain_judge.specs.Pairs as spec;
 use crate::body::Body;
 use crate::nodes::add_nodes;
 use crate::site_rules::add;
-use cfj_model::{Class, Method, Project, Rule, Site};
+use cfj_model::{Class, Method, Project, Rule, Site, SiteRef};
 use std::alloc::{AllocError, Global};
 
 /// Adds the rules at the fields of a class.
@@ -13,8 +15,8 @@ fn add_fields(alloc: Global, pairs: &mut Vec<(Site, Rule)>, class: &Class) -> Re
     ensures { OnOk result (pairs.new.items ≡ pairs.old.items ++ flat_map (spec.field_pairs class.now) class.now.fields) }
 {
     'each: for field in class.fields.slice() {
-        let site = Site::Field(class.name.copy(alloc)?, field.name.copy(alloc)?, field.alt);
-        add(alloc, pairs, &site, &[Rule::K1, Rule::K3])?;
+        let site = SiteRef::Field(&class.name, &field.name, field.alt);
+        add(alloc, pairs, site, &[Rule::K1, Rule::K3])?;
     }
     Ok(())
 }
@@ -28,8 +30,8 @@ fn add_ctor_params(
     ensures { OnOk result (pairs.new.items ≡ pairs.old.items ++ flat_map (spec.ctor_param_pairs class.now) class.now.ctor.params) }
 {
     'each: for param in class.ctor.params.slice() {
-        let site = Site::CtorParam(class.name.copy(alloc)?, param.slot);
-        add(alloc, pairs, &site, &[Rule::K1])?;
+        let site = SiteRef::CtorParam(&class.name, param.slot);
+        add(alloc, pairs, site, &[Rule::K1])?;
     }
     Ok(())
 }
@@ -38,8 +40,12 @@ fn add_ctor_params(
 fn add_ctor(alloc: Global, pairs: &mut Vec<(Site, Rule)>, class: &Class) -> Result<(), AllocError>
     ensures { OnOk result (pairs.new.items ≡ pairs.old.items ++ spec.ctor_pairs class.now) }
 {
-    let site = Site::Ctor(class.name.copy(alloc)?);
-    add(alloc, pairs, &site, &[Rule::K4, Rule::K5, Rule::K6])?;
+    add(
+        alloc,
+        pairs,
+        SiteRef::Ctor(&class.name),
+        &[Rule::K4, Rule::K5, Rule::K6],
+    )?;
     add_ctor_params(alloc, pairs, class)
 }
 
@@ -53,9 +59,8 @@ fn add_params(
     ensures { OnOk result (pairs.new.items ≡ pairs.old.items ++ flat_map (spec.param_pairs class.now method.now) method.now.params) }
 {
     'each: for param in method.params.slice() {
-        let class_name = class.name.copy(alloc)?;
-        let site = Site::Param(class_name, method.name.copy(alloc)?, method.alt, param.slot);
-        add(alloc, pairs, &site, &[Rule::K1])?;
+        let site = SiteRef::Param(&class.name, &method.name, method.alt, param.slot);
+        add(alloc, pairs, site, &[Rule::K1])?;
     }
     Ok(())
 }
@@ -69,12 +74,8 @@ fn add_method(
 ) -> Result<(), AllocError>
     ensures { OnOk result (pairs.new.items ≡ pairs.old.items ++ spec.method_pairs class.now method.now) }
 {
-    let site = Site::Method(
-        class.name.copy(alloc)?,
-        method.name.copy(alloc)?,
-        method.alt,
-    );
-    add(alloc, pairs, &site, &[Rule::K1, Rule::K7, Rule::K8])?;
+    let site = SiteRef::Method(&class.name, &method.name, method.alt);
+    add(alloc, pairs, site, &[Rule::K1, Rule::K7, Rule::K8])?;
     add_params(alloc, pairs, class, method)?;
     let body = Body {
         alloc,
@@ -103,8 +104,12 @@ fn add_methods(
 fn add_class(alloc: Global, pairs: &mut Vec<(Site, Rule)>, class: &Class) -> Result<(), AllocError>
     ensures { OnOk result (pairs.new.items ≡ pairs.old.items ++ spec.class_pairs class.now) }
 {
-    let site = Site::Class(class.name.copy(alloc)?);
-    add(alloc, pairs, &site, &[Rule::K1, Rule::K2])?;
+    add(
+        alloc,
+        pairs,
+        SiteRef::Class(&class.name),
+        &[Rule::K1, Rule::K2],
+    )?;
     add_fields(alloc, pairs, class)?;
     add_ctor(alloc, pairs, class)?;
     add_methods(alloc, pairs, class)

@@ -1,3 +1,5 @@
+//! What is asked of each pair: the least selection under which it breaks.
+
 ghost use Rattle.std.specs.Prelude.{◌≡◌, IfOk, OnOk, map};
 ghost use Rattle.plain_judge.specs.Questions as spec;
 

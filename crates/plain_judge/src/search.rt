@@ -1,5 +1,7 @@
+//! The selections, tried one after another.
+
 ghost use Rattle.std.specs.Prelude.{◌≡◌, ◌↔◌, ℕ, ◌+◌, ◌^◌, ◌<◌, IsTrue, IfOk, OnOk, length};
-ghost use Rattle.cfj_model.specs.Validity.{IsValid};
+ghost use Rattle.cfj_logic.specs.Validity.{IsValid};
 ghost use Rattle.plain_judge.specs.Searching as spec;
 
 use crate::denials::denial;

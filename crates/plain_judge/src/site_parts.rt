@@ -1,3 +1,5 @@
+//! The parts of a site, by which it is looked up.
+
 ghost use Rattle.std.specs.Prelude.{◌≡◌, []};
 ghost use Rattle.plain_judge.specs.SiteParts.{class_parts, parts_of, seen};
 

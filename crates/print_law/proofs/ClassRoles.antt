@@ -11,16 +11,16 @@ use Rattle.cfj_model.specs.declared.class.Param.{Param}
 use Rattle.cfj_model.specs.declared.class.Sent.{Sent}
 use Rattle.cfj_model.specs.declared.class.Method.{Method}
 use Rattle.cfj_model.specs.declared.class.Class.{Class}
-use Rattle.cfj_model.specs.declared.formula.Formula.{Formula}
+use Rattle.cfj_logic.specs.declared.formula.Formula.{Formula}
 use Rattle.cfj_model.specs.ExpressionGrammar.{roles_expr}
 use Rattle.cfj_model.specs.Expressions.{node_count}
-use Rattle.cfj_model.specs.Formulas.{formula_node_count}
+use Rattle.cfj_logic.specs.Formulas.{formula_node_count}
 use Rattle.cfj_model.specs.Grammar.{Declared}
 use Rattle.cfj_model.specs.Marks.{in_order, each_behind, separated, roles_marks}
-use Rattle.cfj_model.specs.Names.{is_short_identifier}
-use Rattle.cfj_model.specs.ProductLines.{ProductLine, IsProject, has, are_new, are_distinct, object, is_field, is_param, is_sent, is_method, is_class, is_constraint, method_size, class_size, most_features, most_classes, most_fields, most_in_ctor, most_params, most_methods, most_nodes, most_size, most_formula_nodes}
+use Rattle.cfj_words.specs.Names.{is_among, is_short_identifier}
+use Rattle.cfj_model.specs.ProductLines.{ProductLine, IsProject, are_new, are_distinct, object, is_field, is_param, is_sent, is_method, is_class, is_constraint, method_size, class_size, most_features, most_classes, most_fields, most_in_ctor, most_params, most_methods, most_nodes, most_size, most_formula_nodes}
 use Rattle.cfj_model.specs.ProductLines as project
-use Rattle.cfj_model.specs.Roles.{Role, param_name, method_param_name, used_name, plain, Tally, nothing, counted, broken_by, AreWithin}
+use Rattle.cfj_model.specs.Roles.{Role, param_name, method_param_name, used_name, other_token, Tally, nothing, counted, broken_by, AreWithin}
 use Rattle.cfj_model.specs.TreeRoles.{roles_feature, roles_features, roles_field, roles_sent, roles_assign, roles_method, roles_constraint, roles_class, roles}
 use Rattle.print_law.proofs.ClassTrees.{tree_of_field, tree_of_param, tree_of_sent, tree_of_method, tree_of_class, tree_of, field_kept, param_kept, sent_kept, method_kept, class_kept, constraint_kept}
 use Rattle.print_law.proofs.ExprRoles.{with_nodes, expr_within}
@@ -35,8 +35,8 @@ moved : (P : List (List ℕ) → ℕ → Type 0) (xs ys : List (List ℕ)) (m n 
 moved P xs ys m n e f h = subst (λ zs. P zs n) e (subst (P xs) f h)
 
 -- the first of new names, and the others behind it
-new_first : (before : List (List ℕ)) (w : List ℕ) (ws : List (List ℕ)) → are_new before (w ∷ ws) ≡ true → (has before w ≡ false) × (are_new (before ++ w ∷ []) ws ≡ true)
-new_first before w ws h = let p = and_parts (not (has before w)) (are_new (before ++ w ∷ []) ws) h in (not-true (has before w) p.0, p.1)
+new_first : (before : List (List ℕ)) (w : List ℕ) (ws : List (List ℕ)) → are_new before (w ∷ ws) ≡ true → (is_among before w ≡ false) × (are_new (before ++ w ∷ []) ws ≡ true)
+new_first before w ws h = let p = and_parts (not (is_among before w)) (are_new (before ++ w ∷ []) ws) h in (not-true (is_among before w) p.0, p.1)
 
 module _ (features : List (List ℕ)) (distinct : are_distinct features ≡ true) (well : list_all is_short_identifier features ≡ true) where
   abbrev count : ℕ
@@ -77,7 +77,7 @@ module _ (features : List (List ℕ)) (distinct : are_distinct features ≡ true
 
   -- the names of parameters in a role that is fine where there is room for one more
   record IsParamRole (role : List ℕ → Role) (most : ℕ) : Type 0 where
-    fine : (t : Tally) (w : List ℕ) → is_short_identifier w ≡ true → has t.params w ≡ false → length t.params < most → t.size < most_size → broken_by t (role w) ≡ None
+    fine : (t : Tally) (w : List ℕ) → is_short_identifier w ≡ true → is_among t.params w ≡ false → length t.params < most → t.size < most_size → broken_by t (role w) ≡ None
     counts : (t : Tally) (w : List ℕ) → counted t (role w) ≡ record t { marks = []; params = t.params ++ w ∷ []; size = t.size + 1 }
 
   module _ (role : List ℕ → Role) (most : ℕ) (is : IsParamRole role most) where
@@ -117,18 +117,18 @@ module _ (features : List (List ℕ)) (distinct : are_distinct features ≡ true
     no_param t rest r w = subst (λ ms. AreWithin (record t { marks = ms }) rest) (sym r.marks) (moved (with_params t rest) _ _ _ _ (append-nil t.params) (omega arith) w)
 
     params_behind : (ps : List Param) (t : Tally) (rest : List Role) → list_all (is_param count) ps ≡ true → IsReady features t → HasRoom t ps
-        → with_params t rest (t.params ++ map (λ p. p.name) ps) (t.size + length ps) → AreWithin t (each_behind plain roles_one (map (tree_of_param features) ps) rest)
+        → with_params t rest (t.params ++ map (λ p. p.name) ps) (t.size + length ps) → AreWithin t (each_behind other_token roles_one (map (tree_of_param features) ps) rest)
     params_behind [] t rest h r room w = no_param t rest r w
     params_behind (p ∷ ps) t rest h r room w =
         let q = and_parts (is_param count p) (list_all (is_param count) ps) h in
         let u : Tally = record t { marks = []; params = t.params ++ p.name ∷ []; size = t.size + 1 } in
-        let others : AreWithin u (each_behind plain roles_one (map (tree_of_param features) ps) rest) =
+        let others : AreWithin u (each_behind other_token roles_one (map (tree_of_param features) ps) rest) =
         params_behind ps u rest q.1 (record { met = r.met; marks = refl }) (more_room p ps t room)
         (moved (with_params t rest) _ _ _ _ (sym (append_assoc t.params (p.name ∷ []) (map (λ p. p.name) ps))) (omega arith) w) in
-        (refl, param_within p ps t _ q.0 r room (λ v e. subst (λ x. AreWithin x (each_behind plain roles_one (map (tree_of_param features) ps) rest)) (sym e) others))
+        (refl, param_within p ps t _ q.0 r room (λ v e. subst (λ x. AreWithin x (each_behind other_token roles_one (map (tree_of_param features) ps) rest)) (sym e) others))
 
     params_within : (ps : List Param) (t : Tally) (rest : List Role) → list_all (is_param count) ps ≡ true → IsReady features t → HasRoom t ps
-        → with_params t rest (t.params ++ map (λ p. p.name) ps) (t.size + length ps) → AreWithin t (separated plain roles_one (map (tree_of_param features) ps) rest)
+        → with_params t rest (t.params ++ map (λ p. p.name) ps) (t.size + length ps) → AreWithin t (separated other_token roles_one (map (tree_of_param features) ps) rest)
     params_within [] t rest h r room w = no_param t rest r w
     params_within (p ∷ ps) t rest h r room w = let b = params_behind (p ∷ ps) t rest h r room w in b.1
 
@@ -147,7 +147,7 @@ module _ (features : List (List ℕ)) (distinct : are_distinct features ≡ true
       (subst (λ n. AreWithin (record t { marks = []; sends = t.sends + 0; size = n }) rest) (let e : t.size + 0 ≡ t.size = omega arith in e) w))
 
   sends_behind : (ss : List Sent) (t : Tally) (rest : List Role) → list_all (is_sent count) ss ≡ true → IsReady features t → t.sends + length ss ≤ most_in_ctor → t.size + length ss ≤ most_size
-      → AreWithin (record t { marks = []; sends = t.sends + length ss; size = t.size + length ss }) rest → AreWithin t (each_behind plain roles_sent (map (tree_of_sent features) ss) rest)
+      → AreWithin (record t { marks = []; sends = t.sends + length ss; size = t.size + length ss }) rest → AreWithin t (each_behind other_token roles_sent (map (tree_of_sent features) ss) rest)
   sends_behind [] t rest h r few fits w = no_sends t rest r w
   sends_behind (s ∷ ss) t rest h r few fits w =
       let p = and_parts (is_sent count s) (list_all (is_sent count) ss) h in
@@ -164,7 +164,7 @@ module _ (features : List (List ℕ)) (distinct : are_distinct features ≡ true
       )
 
   sends_within : (ss : List Sent) (t : Tally) (rest : List Role) → list_all (is_sent count) ss ≡ true → IsReady features t → t.sends + length ss ≤ most_in_ctor → t.size + length ss ≤ most_size
-      → AreWithin (record t { marks = []; sends = t.sends + length ss; size = t.size + length ss }) rest → AreWithin t (separated plain roles_sent (map (tree_of_sent features) ss) rest)
+      → AreWithin (record t { marks = []; sends = t.sends + length ss; size = t.size + length ss }) rest → AreWithin t (separated other_token roles_sent (map (tree_of_sent features) ss) rest)
   sends_within [] t rest h r few fits w = no_sends t rest r w
   sends_within (s ∷ ss) t rest h r few fits w = let b = sends_behind (s ∷ ss) t rest h r few fits w in b.1
 
@@ -225,7 +225,7 @@ module _ (features : List (List ℕ)) (distinct : are_distinct features ≡ true
       let others : AreWithin x (in_order roles_method (map (tree_of_method features) ms) rest) =
       methods_within ms x rest p.1 (record { met = r.met; marks = refl }) n.1 (omega arith) (omega (arith, sum))
       (moved (with_methods t rest) _ _ _ _ (sym (append_assoc t.methods (m.name ∷ []) (map (λ m. m.name) ms))) (omega (arith, sum)) w) in
-      let body : AreWithin v (roles_expr 0 (tree_of_expr features m.body) (plain ∷ (plain ∷ in_order roles_method (map (tree_of_method features) ms) rest))) =
+      let body : AreWithin v (roles_expr 0 (tree_of_expr features m.body) (other_token ∷ (other_token ∷ in_order roles_method (map (tree_of_method features) ms) rest))) =
       expr_within features distinct well m.body v _ k.named k.shallow r.met (omega arith) (omega (arith, sum)) (refl, (refl, others)) in
       marks_within features m.colors t _ distinct well r
       (λ ms'. (
@@ -246,7 +246,7 @@ module _ (features : List (List ℕ)) (distinct : are_distinct features ≡ true
   Behind t k rest = (u : Tally) → u.features ≡ t.features → u.marks ≡ [] → u.formula_nodes ≡ t.formula_nodes → u.classes ≡ t.classes ++ k.name ∷ [] → u.size ≡ t.size + class_size k → AreWithin u rest
 
   -- a class within the limits, where there is room for it
-  pub class_within : (k : Class) (t : Tally) (rest : List Role) → is_class count k ≡ true → IsReady features t → has t.classes k.name ≡ false → length t.classes < most_classes → t.size + class_size k ≤ most_size
+  pub class_within : (k : Class) (t : Tally) (rest : List Role) → is_class count k ≡ true → IsReady features t → is_among t.classes k.name ≡ false → length t.classes < most_classes → t.size + class_size k ≤ most_size
       → Behind t k rest → AreWithin t (roles_class (tree_of_class features k) rest)
   class_within k t rest h r new few fits w =
       let c = class_kept count k h in
@@ -342,7 +342,7 @@ module _ (features : List (List ℕ)) (distinct : are_distinct features ≡ true
 -- ---- features
 
 names_within : (fs : List (List ℕ)) (t : Tally) (rest : List Role) → list_all is_short_identifier fs ≡ true → are_new t.features fs ≡ true → length t.features + length fs ≤ most_features
-    → AreWithin (record t { features = t.features ++ fs }) rest → AreWithin t (each_behind plain roles_feature fs rest)
+    → AreWithin (record t { features = t.features ++ fs }) rest → AreWithin t (each_behind other_token roles_feature fs rest)
 names_within [] t rest h new few w = subst (λ ws. AreWithin (record t { features = ws }) rest) (append-nil t.features) w
 names_within (f ∷ fs) t rest h new few w =
     let p = and_parts (is_short_identifier f) (list_all is_short_identifier fs) h in
@@ -357,7 +357,7 @@ names_within (f ∷ fs) t rest h new few w =
 
 features_within : (fs : List (List ℕ)) (rest : List Role) → list_all is_short_identifier fs ≡ true → are_distinct fs ≡ true → length fs ≤ most_features → AreWithin (record nothing { features = fs }) rest → AreWithin nothing (roles_features fs rest)
 features_within [] rest h new few w = w
-features_within (f ∷ fs) rest h new few w = let b = names_within (f ∷ fs) nothing (plain ∷ rest) h new (omega arith) (refl, w) in (refl, b.1)
+features_within (f ∷ fs) rest h new few w = let b = names_within (f ∷ fs) nothing (other_token ∷ rest) h new (omega arith) (refl, w) in (refl, b.1)
 
 -- the tree of a project is within the limits
 pub project_within : (p : ProductLine) → IsProject p → AreWithin nothing (roles (tree_of p) [])

@@ -10,14 +10,14 @@ use Rattle.cfj_model.specs.declared.class.Param.{Param}
 use Rattle.cfj_model.specs.declared.class.Sent.{Sent}
 use Rattle.cfj_model.specs.declared.class.Method.{Method}
 use Rattle.cfj_model.specs.declared.class.Class.{Class}
-use Rattle.cfj_model.specs.declared.formula.Formula.{Formula}
+use Rattle.cfj_logic.specs.declared.formula.Formula.{Formula}
 use Rattle.cfj_model.specs.Grammar.{spell_name, spell_features, spell_field, spell_param, spell_sent, spell_assign, spell_ctor, spell_method, spell_constraint, spell_class, spell}
-use Rattle.cfj_model.specs.Lexemes.{skipped, lexeme_at, next_lexeme}
+use Rattle.cfj_words.specs.Lexemes.{skipped, lexeme_at, next_lexeme}
 use Rattle.cfj_model.specs.Marks.{in_order, each_behind, separated}
-use Rattle.cfj_model.specs.Names.{is_short_identifier}
+use Rattle.cfj_words.specs.Names.{is_short_identifier}
 use Rattle.cfj_model.specs.Print.{texts, texts_behind, joined, name_text, field_text, param_text, sent_text, assign_text, ctor_text, method_text, class_text, features_text, constraint_text, printed}
 use Rattle.cfj_model.specs.ProductLines.{ProductLine, IsProject, is_field, is_param, is_sent, is_method, is_class, is_constraint, most_in_ctor, most_params}
-use Rattle.cfj_model.specs.Tokens.{Token, Id, Comma}
+use Rattle.cfj_words.specs.Tokens.{Token, Id, Comma}
 use Rattle.print_law.proofs.ClassTrees.{tree_of_field, tree_of_param, tree_of_sent, tree_of_method, tree_of_class, tree_of, field_kept, param_kept, sent_kept, ParamsKept, method_kept, ClassKept, class_kept, constraint_kept}
 use Rattle.print_law.proofs.ExprTexts.{expr_reads}
 use Rattle.print_law.proofs.FormulaTrees.{as_identifier, formula_reads, tree_of_formula}

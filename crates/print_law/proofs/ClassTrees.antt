@@ -8,14 +8,14 @@ use Rattle.cfj_model.specs.declared.class.Param.{Param}
 use Rattle.cfj_model.specs.declared.class.Sent.{Sent}
 use Rattle.cfj_model.specs.declared.class.Method.{Method}
 use Rattle.cfj_model.specs.declared.class.Class.{Class}
-use Rattle.cfj_model.specs.declared.formula.Formula.{Formula}
+use Rattle.cfj_logic.specs.declared.formula.Formula.{Formula}
 use Rattle.cfj_model.specs.ExpressionGrammar.{value_expr}
 use Rattle.cfj_model.specs.Expressions.{are_known, is_named, node_count, nest, slots}
 use Rattle.cfj_model.specs.FormulaGrammar.{value_iff}
-use Rattle.cfj_model.specs.Formulas.{is_over, formula_nest}
+use Rattle.cfj_logic.specs.Formulas.{is_over, formula_nest}
 use Rattle.cfj_model.specs.Grammar.{Declared, Named, MethodTree, ClassTree, Tree, numbered, value_field, value_param, value_sent, value_ctor, value_method, value_class}
 use Rattle.cfj_model.specs.Grammar as grammar
-use Rattle.cfj_model.specs.Names.{is_short_identifier}
+use Rattle.cfj_words.specs.Names.{is_short_identifier}
 use Rattle.cfj_model.specs.Numbered.{run_from, is_numbered_ctor, is_numbered_method, is_numbered_class, IsNumbered}
 use Rattle.cfj_model.specs.ProductLines.{ProductLine, IsProject, are_distinct, rise_from, object, is_field, is_param, is_sent, are_params, are_sents, are_fields, is_ctor, is_body, is_method, are_methods, is_class, is_constraint, most_fields, most_in_ctor, most_params, most_methods, most_nodes, most_nest}
 use Rattle.print_law.proofs.ExprTrees.{tree_of_expr, run_first, expr_again}

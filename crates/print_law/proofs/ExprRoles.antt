@@ -13,9 +13,9 @@ use Rattle.cfj_model.specs.declared.expr.Expr.TheFolds.{fold-Expr}
 use Rattle.cfj_model.specs.ExpressionGrammar.{ExprTree, cast, chain, this_word, variable, StepsTree, stop, get, call, roles_expr, roles_start, roles_steps, roles_args, roles_more_args}
 use Rattle.cfj_model.specs.Expressions.{of_arg, are_known, is_named_step, is_named_arg, is_named, Nesting, receiver_depth, greatest, nesting_step, nesting_of_arg, nest, node_count_step, node_count}
 use Rattle.cfj_model.specs.Marks.{roles_marks}
-use Rattle.cfj_model.specs.Names.{is_name, is_short_identifier}
+use Rattle.cfj_words.specs.Names.{is_name, is_short_identifier}
 use Rattle.cfj_model.specs.ProductLines.{are_distinct, most_nest, most_nodes, most_size}
-use Rattle.cfj_model.specs.Roles.{Role, casts, node, opens, plain, used_name, var_name, Tally, AreWithin}
+use Rattle.cfj_model.specs.Roles.{Role, casts, node, opens, other_token, used_name, var_name, Tally, AreWithin}
 use Rattle.cfj_model.proofs.ExprCases.{Proved, args_of, Cases, by_cases, fold_var, fold_get, fold_call, fold_new, fold_cast}
 use Rattle.print_law.proofs.ExprTexts.{is_cast_tree, received_kind, or_left_of}
 use Rattle.print_law.proofs.ExprTrees.{ArgTree, more_of, args_tree, with_steps, received, tree_step, arg_tree_step, tree_of_expr, tree_of_arg}
@@ -67,17 +67,17 @@ module _ (features : List (List ℕ)) where
 
   -- the name, the bracket that opens, the arguments and the bracket that closes, behind a node
   args_in : (b : ℕ → List Role → List Role) (n l : ℕ) (f : List ℕ) → is_short_identifier f ≡ true → FitsReady features b n l → (t : Tally) (d : ℕ) (rest : List Role) → t.features ≡ features → t.marks ≡ [] → d + 1 + n ≤ most_nest → HasRoom t l
-      → AreWithin (with_nodes t l) rest → AreWithin t (used_name f ∷ (opens (d + 1) ∷ b (d + 1) (plain ∷ rest)))
+      → AreWithin (with_nodes t l) rest → AreWithin t (used_name f ∷ (opens (d + 1) ∷ b (d + 1) (other_token ∷ rest)))
   args_in b n l f h q t d rest r none deep room w = (
     used_ok t f h,
     (
       opens_ok (record t { marks = [] }) (d + 1) (omega arith),
-      q.on (record t { marks = [] }) (d + 1) (plain ∷ rest) (record { met = r; marks = refl }) deep (record { nodes = room.nodes; size = room.size }) (refl, w),
+      q.on (record t { marks = [] }) (d + 1) (other_token ∷ rest) (record { met = r; marks = refl }) deep (record { nodes = room.nodes; size = room.size }) (refl, w),
     ),
   )
 
   call_fits : (a b : ℕ → List Role → List Role) (m n k l : ℕ) (f : List ℕ) → is_short_identifier f ≡ true → Fits features a m k → FitsReady features b n l
-      → Fits features (λ d rest. a d (node ∷ (used_name f ∷ (opens (d + 1) ∷ b (d + 1) (plain ∷ rest))))) (max m (1 + n)) (k + (1 + l))
+      → Fits features (λ d rest. a d (node ∷ (used_name f ∷ (opens (d + 1) ∷ b (d + 1) (other_token ∷ rest))))) (max m (1 + n)) (k + (1 + l))
   call_fits a b m n k l f h p q = record {
     on = λ t d rest r deep room w.
         let few = room.nodes in let small = room.size in
@@ -89,7 +89,7 @@ module _ (features : List (List ℕ)) where
   }
 
   new_fits : (b : ℕ → List Role → List Role) (n l : ℕ) (f : List ℕ) → is_short_identifier f ≡ true → FitsReady features b n l
-      → Fits features (λ d rest. node ∷ (used_name f ∷ (opens (d + 1) ∷ b (d + 1) (plain ∷ rest)))) (1 + n) (1 + l)
+      → Fits features (λ d rest. node ∷ (used_name f ∷ (opens (d + 1) ∷ b (d + 1) (other_token ∷ rest)))) (1 + n) (1 + l)
   new_fits b n l f h q = record {
     on = λ t d rest r deep room w.
         let few = room.nodes in let small = room.size in (
@@ -99,7 +99,7 @@ module _ (features : List (List ℕ)) where
   }
 
   cast_fits : (b : ℕ → List Role → List Role) (n l : ℕ) (f : List ℕ) → is_short_identifier f ≡ true → Fits features b n l
-      → Fits features (λ d rest. casts (d + 1) ∷ (used_name f ∷ (plain ∷ b (d + 1) rest))) (1 + n) (1 + l)
+      → Fits features (λ d rest. casts (d + 1) ∷ (used_name f ∷ (other_token ∷ b (d + 1) rest))) (1 + n) (1 + l)
   cast_fits b n l f h q = record {
     on = λ t d rest r deep room w.
         let few = room.nodes in let small = room.size in (
@@ -114,10 +114,10 @@ module _ (features : List (List ℕ)) where
         );
   }
 
-  brackets_fit : (b : ℕ → List Role → List Role) (n l : ℕ) → Fits features b n l → Fits features (λ d rest. opens (d + 1) ∷ b (d + 1) (plain ∷ rest)) (1 + n) l
+  brackets_fit : (b : ℕ → List Role → List Role) (n l : ℕ) → Fits features b n l → Fits features (λ d rest. opens (d + 1) ∷ b (d + 1) (other_token ∷ rest)) (1 + n) l
   brackets_fit b n l q = record {
     on = λ t d rest r deep room w.
-        (opens_ok t (d + 1) (omega arith), q.on (record t { marks = [] }) (d + 1) (plain ∷ rest) r (omega arith) (record { nodes = room.nodes; size = room.size }) (refl, w));
+        (opens_ok t (d + 1) (omega arith), q.on (record t { marks = [] }) (d + 1) (other_token ∷ rest) r (omega arith) (record { nodes = room.nodes; size = room.size }) (refl, w));
   }
 
   -- ---- arguments
@@ -128,7 +128,7 @@ module _ (features : List (List ℕ)) where
         subst (λ ms. AreWithin (record t { marks = ms }) rest) (sym r.marks) (behind t _ _ t.nodes t.size rest (omega arith) (omega arith) w);
   }
 
-  comma_fits : (a : ℕ → List Role → List Role) (m k : ℕ) → FitsReady features a m k → FitsReady features (λ d rest. plain ∷ a d rest) m k
+  comma_fits : (a : ℕ → List Role → List Role) (m k : ℕ) → FitsReady features a m k → FitsReady features (λ d rest. other_token ∷ a d rest) m k
   comma_fits a m k p = record { on = λ t d rest r deep room w. (refl, p.on t d rest r deep room w) }
 
   arg_fits : (distinct : are_distinct features ≡ true) (well : list_all is_short_identifier features ≡ true) (colors : ℕ) (a b : ℕ → List Role → List Role) (m n k l : ℕ) → Fits features a m k → FitsReady features b n l
@@ -154,13 +154,13 @@ nested_as features t u n m k l e d c h = subst (λ v. IsNested features v n k) (
 
 -- the roles of a tree as a receiver
 abbrev roles_received : ℕ → ExprTree → List Role → List Role
-roles_received d (cast c t) rest = opens (d + 1) ∷ roles_expr (d + 1) (cast c t) (plain ∷ rest)
+roles_received d (cast c t) rest = opens (d + 1) ∷ roles_expr (d + 1) (cast c t) (other_token ∷ rest)
 roles_received d (chain s ss) rest = roles_expr d (chain s ss) rest
 
 steps_roles : (d : ℕ) (ss more : StepsTree) (rest : List Role) → roles_steps d (with_steps ss more) rest ≡ roles_steps d ss (roles_steps d more rest)
 steps_roles d stop more rest = refl
 steps_roles d (get f ss) more rest = ap (λ w. node ∷ (used_name f ∷ w)) (steps_roles d ss more rest)
-steps_roles d (call m args ss) more rest = ap (λ w. node ∷ (used_name m ∷ (opens (d + 1) ∷ roles_args (d + 1) args (plain ∷ w)))) (steps_roles d ss more rest)
+steps_roles d (call m args ss) more rest = ap (λ w. node ∷ (used_name m ∷ (opens (d + 1) ∷ roles_args (d + 1) args (other_token ∷ w)))) (steps_roles d ss more rest)
 
 received_roles : (d : ℕ) (t : ExprTree) (more : StepsTree) (rest : List Role) → roles_received d t (roles_steps d more rest) ≡ roles_expr d (received t more) rest
 received_roles d (cast c t) more rest = refl

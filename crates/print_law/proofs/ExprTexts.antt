@@ -12,9 +12,9 @@ use Rattle.cfj_model.specs.declared.expr.Expr.TheFolds.{fold-Expr}
 use Rattle.cfj_model.specs.ExpressionGrammar.{ExprTree, cast, chain, this_word, variable, StepsTree, stop, get, call, spell_expr, spell_start, spell_steps, spell_args, spell_more_args}
 use Rattle.cfj_model.specs.Expressions.{are_known, is_named_step, is_named_arg, is_named}
 use Rattle.cfj_model.specs.Marks.{spell_marks}
-use Rattle.cfj_model.specs.Names.{is_name, is_short_identifier}
+use Rattle.cfj_words.specs.Names.{is_name, is_short_identifier}
 use Rattle.cfj_model.specs.Print.{Shown, shown_step, shown_arg, receiver_text, itself, joined, texts_behind, marks_text, expr_text}
-use Rattle.cfj_model.specs.Tokens.{Token, Id, Dot, OpenParen, CloseParen}
+use Rattle.cfj_words.specs.Tokens.{Token, Id, Dot, OpenParen, CloseParen}
 use Rattle.cfj_model.proofs.ExprCases.{Proved, args_of, Cases, by_cases, fold_var, fold_get, fold_call, fold_new, fold_cast}
 use Rattle.print_law.proofs.ExprTrees.{ArgTree, more_of, args_tree, with_steps, received, tree_step, arg_tree_step, tree_of_expr, tree_of_arg}
 use Rattle.print_law.proofs.Features.{marks_of}

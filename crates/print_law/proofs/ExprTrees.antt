@@ -15,7 +15,7 @@ use Rattle.cfj_model.specs.declared.expr.Expr.TheFolds.{fold-Expr}
 use Rattle.cfj_model.specs.ExpressionGrammar.{ExprTree, cast, chain, variable, this_word, made, bracket, StepsTree, stop, get, call, ArgsTree, no_args, first_arg, MoreArgsTree, no_more, next_arg, Numbered, value_expr, value_steps, value_args, value_more_args}
 use Rattle.cfj_model.specs.Expressions.{of_arg, slots_step, slots, are_known, is_named_step, is_named_arg, is_named}
 use Rattle.cfj_model.specs.Marks.{colors_of}
-use Rattle.cfj_model.specs.Names.{is_short_identifier}
+use Rattle.cfj_words.specs.Names.{is_short_identifier}
 use Rattle.cfj_model.specs.Numbered.{run_from}
 use Rattle.cfj_model.specs.ProductLines.{are_distinct}
 use Rattle.cfj_model.proofs.ExprCases.{Proved, args_of, Cases, by_cases, fold_var, fold_get, fold_call, fold_new, fold_cast}

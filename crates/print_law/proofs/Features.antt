@@ -9,9 +9,10 @@ use Rattle.std.proofs.lemmas.Iterator.Adapters.{position_from-zero}
 use Rattle.std.proofs.lemmas.List.{append-nil}
 use Rattle.std.proofs.lemmas.Nat.Bits.{bit_at-lt, bit_at-zero, bit_at_or, bit_at_above, bit_at-pow_same, bit_at-pow_other, same_from_bits}
 use Rattle.std.proofs.lemmas.Slice.Eq.{bytes_eq-Decides}
-use Rattle.cfj_model.specs.Selections.{has_bit}
+use Rattle.cfj_logic.specs.Selections.{has_bit}
 use Rattle.cfj_model.specs.Marks.{color_at, color_of, colored, colors_of}
-use Rattle.cfj_model.specs.ProductLines.{has, are_new, are_distinct}
+use Rattle.cfj_model.specs.ProductLines.{are_new, are_distinct}
+use Rattle.cfj_words.specs.Names.{is_among}
 
 -- a text is equal to itself
 pub same_text : (w : List ℕ) → bytes_eq w w ≡ true
@@ -33,19 +34,19 @@ at_seam p (b ∷ before) f fs i n h = go (p b) refl n (λ m. at_seam p before f 
     go false e m ih = rw e (ih m ∙ ap Some (omega arith))
 
 -- a name that is new behind others stands at their number
-pub place_of_name : (before : List (List ℕ)) (f : List ℕ) (fs : List (List ℕ)) → has before f ≡ false → position (λ g. bytes_eq g f) (before ++ f ∷ fs) ≡ Some (length before)
+pub place_of_name : (before : List (List ℕ)) (f : List ℕ) (fs : List (List ℕ)) → is_among before f ≡ false → position (λ g. bytes_eq g f) (before ++ f ∷ fs) ≡ Some (length before)
 place_of_name before f fs n = position_from-zero (λ g. bytes_eq g f) (before ++ f ∷ fs) ∙ at_seam (λ g. bytes_eq g f) before f fs 0 n (same_text f) ∙ ap Some (omega arith)
 
 -- as a split of the features
 pub record Split (features before : List (List ℕ)) (f : List ℕ) (fs : List (List ℕ)) : Type 0 where
   pub whole : features ≡ before ++ f ∷ fs
-  pub fresh : has before f ≡ false
+  pub fresh : is_among before f ≡ false
   pub others : are_new (before ++ f ∷ []) fs ≡ true
 
 pub split : (features before : List (List ℕ)) (f : List ℕ) (fs : List (List ℕ)) → features ≡ before ++ f ∷ fs → are_new before (f ∷ fs) ≡ true → Split features before f fs
 split features before f fs e d =
-    let p = and_parts (not (has before f)) (are_new (before ++ f ∷ []) fs) d in
-    record { whole = e; fresh = not-true (has before f) p.0; others = p.1 }
+    let p = and_parts (not (is_among before f)) (are_new (before ++ f ∷ []) fs) d in
+    record { whole = e; fresh = not-true (is_among before f) p.0; others = p.1 }
 
 pub split_place : (features before : List (List ℕ)) (f : List ℕ) (fs : List (List ℕ)) → Split features before f fs → position (λ g. bytes_eq g f) features ≡ Some (length before)
 split_place features before f fs s = ap (position (λ g. bytes_eq g f)) s.whole ∙ place_of_name before f fs s.fresh
@@ -66,7 +67,7 @@ pub named_again : (features : List (List ℕ)) (i : ℕ) → are_distinct featur
 named_again features i d lt = named_at features [] features i refl d lt ∙ ap Some (omega arith)
 
 -- a feature's name is one of the features
-pub has_named : (features : List (List ℕ)) (i : ℕ) → i < length features → has features (get_or features i []) ≡ true
+pub has_named : (features : List (List ℕ)) (i : ℕ) → i < length features → is_among features (get_or features i []) ≡ true
 has_named [] i lt = absurd (omega arith)
 has_named (f ∷ fs) zero lt = rw (same_text f) refl
 has_named (f ∷ fs) (suc i) lt = or_right (bytes_eq f (get_or fs i [])) _ (has_named fs i (omega arith))

@@ -2,15 +2,15 @@
 use Rattle.std.proofs.Common.{◌≡◌, ℕ, ◌+◌, ◌<◌, ◌≤◌, max, Bool, true, false, nat_lt, if◌then◌else◌, List, [], ◌∷◌, length, get_or, refl, sym, ap, subst, ◌∙◌, arith}
 use Rattle.std.specs.List.{list_all}
 use Rattle.std.proofs.lemmas.Bool.{and_parts, ltb-true}
-use Rattle.cfj_model.specs.declared.formula.Formula.{Formula}
-use Rattle.cfj_model.specs.declared.formula.Formula.TheOpen.{Formula-F}
-use Rattle.cfj_model.specs.declared.formula.Formula.TheFolds.{fold-Formula}
-use Rattle.cfj_model.specs.Names.{is_short_identifier}
-use Rattle.cfj_model.specs.Formulas.{is_over_step, is_over, FormulaNesting, operand_depth, formula_nesting_step, formula_nest, formula_node_count_step, formula_node_count}
+use Rattle.cfj_logic.specs.declared.formula.Formula.{Formula}
+use Rattle.cfj_logic.specs.declared.formula.Formula.TheOpen.{Formula-F}
+use Rattle.cfj_logic.specs.declared.formula.Formula.TheFolds.{fold-Formula}
+use Rattle.cfj_words.specs.Names.{is_among, is_short_identifier}
+use Rattle.cfj_logic.specs.Formulas.{is_over_step, is_over, FormulaNesting, operand_depth, formula_nesting_step, formula_nest, formula_node_count_step, formula_node_count}
 use Rattle.cfj_model.specs.FormulaGrammar.{roles_iff, roles_implies, roles_or, roles_and, roles_unary, bracketed}
-use Rattle.cfj_model.specs.ProductLines.{has, most_nest, most_formula_nodes}
-use Rattle.cfj_model.specs.Roles.{Role, formula_name, formula_node, formula_opens, opens, plain, Tally, AreWithin}
-use Rattle.cfj_model.proofs.FormulaCases.{Cases, by_cases, fold_true, fold_false, fold_feat, fold_not, fold_and, fold_or, fold_implies, fold_iff}
+use Rattle.cfj_model.specs.ProductLines.{most_nest, most_formula_nodes}
+use Rattle.cfj_model.specs.Roles.{Role, formula_name, formula_node, formula_opens, opens, other_token, Tally, AreWithin}
+use Rattle.cfj_logic.proofs.FormulaCases.{Cases, by_cases, fold_true, fold_false, fold_feat, fold_not, fold_and, fold_or, fold_implies, fold_iff}
 use Rattle.print_law.proofs.Features.{has_named}
 use Rattle.print_law.proofs.FormulaTrees.{Shape, an_iff, an_implies, an_or, an_and, a_unary, to_iff, to_implies, to_or, to_and, to_unary, level_of, shape_step, shape, tree_of_formula, named_well}
 use Rattle.print_law.proofs.Limits.{formula_name_ok, formula_node_ok, formula_opens_ok, opens_ok}
@@ -35,8 +35,8 @@ module _ (features : List (List ℕ)) where
   one_node : Fits features (λ d rest. formula_node ∷ rest) 0 1
   one_node = record { on = λ t d rest r deep few w. (formula_node_ok t (omega arith), w) }
 
-  one_name : (w : List ℕ) → is_short_identifier w ≡ true → has features w ≡ true → Fits features (λ d rest. formula_name w ∷ rest) 0 1
-  one_name n h f = record { on = λ t d rest r deep few w. (formula_name_ok t n h (ap (λ fs. has fs n) r.met ∙ f) (omega arith), w) }
+  one_name : (w : List ℕ) → is_short_identifier w ≡ true → is_among features w ≡ true → Fits features (λ d rest. formula_name w ∷ rest) 0 1
+  one_name n h f = record { on = λ t d rest r deep few w. (formula_name_ok t n h (ap (λ fs. is_among fs n) r.met ∙ f) (omega arith), w) }
 
   -- a connective between operands
   with_node : (a b : ℕ → List Role → List Role) (m n k l : ℕ) → Fits features a m k → Fits features b n l → Fits features (λ d rest. a d (formula_node ∷ b d rest)) (max m n) (k + (1 + l))
@@ -70,11 +70,11 @@ module _ (features : List (List ℕ)) where
     );
   }
 
-  with_brackets : (b : ℕ → List Role → List Role) (n l : ℕ) → Fits features b n l → Fits features (λ d rest. opens (d + 1) ∷ b (d + 1) (plain ∷ rest)) (1 + n) l
+  with_brackets : (b : ℕ → List Role → List Role) (n l : ℕ) → Fits features b n l → Fits features (λ d rest. opens (d + 1) ∷ b (d + 1) (other_token ∷ rest)) (1 + n) l
   with_brackets b n l q = record {
     on = λ t d rest r deep few w. (
       opens_ok t (d + 1) (omega arith),
-      q.on (record t { marks = [] }) (d + 1) (plain ∷ rest) (record { met = r.met; marks = refl }) (omega arith) few
+      q.on (record t { marks = [] }) (d + 1) (other_token ∷ rest) (record { met = r.met; marks = refl }) (omega arith) few
           (refl, subst (λ ms. AreWithin (record t { marks = ms; formula_nodes = t.formula_nodes + l }) rest) r.marks w),
     );
   }

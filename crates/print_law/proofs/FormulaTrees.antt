@@ -3,17 +3,17 @@ use Rattle.std.proofs.Common.{◌≡◌, ℕ, ◌<◌, Bool, true, false, ◌&&�
 use Rattle.std.specs.List.{list_all}
 use Rattle.std.proofs.lemmas.Bool.{and_parts, ltb-true}
 use Rattle.std.proofs.lemmas.List.Folds.{list_all_at}
-use Rattle.cfj_model.specs.declared.formula.Formula.{Formula}
-use Rattle.cfj_model.specs.declared.formula.Formula.TheOpen.{Formula-F}
-use Rattle.cfj_model.specs.declared.formula.Formula.TheVariants as f
-use Rattle.cfj_model.specs.declared.formula.Formula.TheFolds.{fold-Formula}
-use Rattle.cfj_model.specs.Names.{is_identifier, is_short_identifier, most_name_bytes}
-use Rattle.cfj_model.specs.Formulas.{is_over_step, is_over}
+use Rattle.cfj_logic.specs.declared.formula.Formula.{Formula}
+use Rattle.cfj_logic.specs.declared.formula.Formula.TheOpen.{Formula-F}
+use Rattle.cfj_logic.specs.declared.formula.Formula.TheVariants as f
+use Rattle.cfj_logic.specs.declared.formula.Formula.TheFolds.{fold-Formula}
+use Rattle.cfj_words.specs.Names.{is_identifier, is_short_identifier, most_name_bytes}
+use Rattle.cfj_logic.specs.Formulas.{is_over_step, is_over}
 use Rattle.cfj_model.specs.FormulaGrammar.{IffTree, one_implies, iff, ImpliesTree, one_or, implies, OrTree, one_and, or, AndTree, one_unary, and, UnaryTree, negated, named, true_word, false_word, bracketed, spell_iff, spell_implies, spell_or, spell_and, spell_unary, feature_at, value_iff, value_implies, value_or, value_and, value_unary}
 use Rattle.cfj_model.specs.Print.{ShownFormula, operand_text, shown_formula_step, formula_text}
 use Rattle.cfj_model.specs.ProductLines.{are_distinct}
-use Rattle.cfj_model.specs.Tokens.{Token}
-use Rattle.cfj_model.proofs.FormulaCases.{Cases, by_cases, fold_true, fold_false, fold_feat, fold_not, fold_and, fold_or, fold_implies, fold_iff}
+use Rattle.cfj_words.specs.Tokens.{Token}
+use Rattle.cfj_logic.proofs.FormulaCases.{Cases, by_cases, fold_true, fold_false, fold_feat, fold_not, fold_and, fold_or, fold_implies, fold_iff}
 use Rattle.print_law.proofs.Features.{named_again}
 use Rattle.print_law.proofs.Lexing.{Reads, both, asks_less, wants_more, identifier, blank, open_paren, close_paren, bang, ampersand, bar, arrow, double_arrow, true_reads, false_reads}
 

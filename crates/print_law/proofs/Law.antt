@@ -6,7 +6,7 @@ use Rattle.std.proofs.lemmas.Bool.{and_parts, leb-true}
 use Rattle.std.proofs.lemmas.List.Sums.{sum_by-cons}
 use Rattle.cfj_model.specs.declared.class.Class.{Class}
 use Rattle.cfj_model.specs.Faults.{IsTextOf, projects, single_classes}
-use Rattle.cfj_model.specs.Names.{is_short_identifier}
+use Rattle.cfj_words.specs.Names.{is_short_identifier}
 use Rattle.cfj_model.specs.Numbered.{is_numbered_class, IsNumbered}
 use Rattle.cfj_model.specs.Print.{printed, class_text}
 use Rattle.cfj_model.specs.ProductLines.{ProductLine, IsProject, are_distinct, is_class, class_size, size, most_size}

@@ -7,11 +7,11 @@ use Rattle.std.specs.Char.{is_ascii_alphabetic, is_ascii_alphanumeric}
 use Rattle.std.proofs.lemmas.Bool.{and_parts, and_from, eqb-true, ltb-true, not-true}
 use Rattle.std.proofs.lemmas.Str.{IsUtf8-append, IsUtf8-from_is_utf8, chars_past_char, chars-append, encode_ascii, encodes-chars}
 use lib.Utf8.{scalars, encode}
-use Rattle.cfj_model.proofs.AsciiWords.{starts_ascii, continues_ascii}
-use Rattle.cfj_model.specs.Names.{starts_word, continues_word, is_word, is_reserved, is_identifier}
-use Rattle.cfj_model.specs.Lexemes.{Word, Mark, Found, AtEnd, is_blank, skipped, is_single_mark, word_run, word_rest, lexeme_at, next_lexeme}
-use Rattle.cfj_model.specs.Tokens.{Token, Id, ClassWord, ExtendsWord, SuperWord, ThisWord, NewWord, ReturnWord, TrueWord, FalseWord, OpenBrace, CloseBrace, OpenParen, CloseParen, Semicolon, Comma, Dot, Equals, At, Bang, Ampersand, Bar, Arrow, DoubleArrow, word_token, mark_token, Takes}
-use Rattle.cfj_model.proofs.WordTokens.{identifier_is}
+use Rattle.cfj_words.proofs.AsciiWords.{starts_ascii, continues_ascii}
+use Rattle.cfj_words.specs.Names.{starts_word, continues_word, is_word, is_reserved, is_identifier}
+use Rattle.cfj_words.specs.Lexemes.{Word, Mark, Found, AtEnd, is_blank, skipped, is_single_mark, word_run, word_rest, lexeme_at, next_lexeme}
+use Rattle.cfj_words.specs.Tokens.{Token, Id, ClassWord, ExtendsWord, SuperWord, ThisWord, NewWord, ReturnWord, TrueWord, FalseWord, OpenBrace, CloseBrace, OpenParen, CloseParen, Semicolon, Comma, Dot, Equals, At, Bang, Ampersand, Bar, Arrow, DoubleArrow, word_token, mark_token, Takes}
+use Rattle.cfj_words.proofs.WordTokens.{identifier_is}
 
 -- whether these characters don't go on a word, where that is asked
 abbrev pub is_apart : Bool → List ℕ → Bool

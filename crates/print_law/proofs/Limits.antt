@@ -2,8 +2,8 @@
 use Rattle.std.proofs.Common.{◌≡◌, ℕ, ◌<◌, ◌≤◌, true, false, nat_le, List, length, None, refl}
 use Rattle.std.specs.Str.{bytes_eq}
 use Rattle.std.proofs.lemmas.Bool.{and_parts, lt-leb, le-ltb, leb-true}
-use Rattle.cfj_model.specs.Names.{is_identifier, is_short_identifier, most_name_bytes}
-use Rattle.cfj_model.specs.ProductLines.{has, object, most_features, most_classes, most_fields, most_methods, most_params, most_in_ctor, most_nest, most_nodes, most_size, most_formula_nodes}
+use Rattle.cfj_words.specs.Names.{is_among, is_identifier, is_short_identifier, most_name_bytes}
+use Rattle.cfj_model.specs.ProductLines.{object, most_features, most_classes, most_fields, most_methods, most_params, most_in_ctor, most_nest, most_nodes, most_size, most_formula_nodes}
 use Rattle.cfj_model.specs.Roles.{feature_name, class_name, field_name, method_name, param_name, method_param_name, sent_name, assigned_name, formula_name, formula_node, formula_opens, opens, casts, node, used_name, var_name, mark_name, Tally, is_long, broken_by}
 
 -- a short identifier isn't too long
@@ -14,10 +14,10 @@ not_long w h = le-ltb most_name_bytes (length w) (leb-true (length w) most_name_
 pub used_ok : (t : Tally) (w : List ℕ) → is_short_identifier w ≡ true → broken_by t (used_name w) ≡ None
 used_ok t w h = rw (not_long w h) refl
 
-pub mark_ok : (t : Tally) (w : List ℕ) → is_short_identifier w ≡ true → has t.features w ≡ true → has t.marks w ≡ false → broken_by t (mark_name w) ≡ None
+pub mark_ok : (t : Tally) (w : List ℕ) → is_short_identifier w ≡ true → is_among t.features w ≡ true → is_among t.marks w ≡ false → broken_by t (mark_name w) ≡ None
 mark_ok t w h f m = rw (not_long w h, f, m) refl
 
-pub formula_name_ok : (t : Tally) (w : List ℕ) → is_short_identifier w ≡ true → has t.features w ≡ true → t.formula_nodes < most_formula_nodes → broken_by t (formula_name w) ≡ None
+pub formula_name_ok : (t : Tally) (w : List ℕ) → is_short_identifier w ≡ true → is_among t.features w ≡ true → t.formula_nodes < most_formula_nodes → broken_by t (formula_name w) ≡ None
 formula_name_ok t w h f lt = rw (not_long w h, f, lt-leb most_formula_nodes t.formula_nodes lt) refl
 
 pub formula_node_ok : (t : Tally) → t.formula_nodes < most_formula_nodes → broken_by t formula_node ≡ None
@@ -40,22 +40,22 @@ var_ok t w h few fits = rw (not_long w h, lt-leb most_nodes t.nodes few, lt-leb 
 
 -- ---- names that are declared
 
-pub feature_ok : (t : Tally) (w : List ℕ) → is_short_identifier w ≡ true → has t.features w ≡ false → length t.features < most_features → broken_by t (feature_name w) ≡ None
+pub feature_ok : (t : Tally) (w : List ℕ) → is_short_identifier w ≡ true → is_among t.features w ≡ false → length t.features < most_features → broken_by t (feature_name w) ≡ None
 feature_ok t w h n lt = rw (not_long w h, n, lt-leb most_features (length t.features) lt) refl
 
-pub class_ok : (t : Tally) (w : List ℕ) → is_short_identifier w ≡ true → bytes_eq w object ≡ false → has t.classes w ≡ false → length t.classes < most_classes → t.size < most_size → broken_by t (class_name w) ≡ None
+pub class_ok : (t : Tally) (w : List ℕ) → is_short_identifier w ≡ true → bytes_eq w object ≡ false → is_among t.classes w ≡ false → length t.classes < most_classes → t.size < most_size → broken_by t (class_name w) ≡ None
 class_ok t w h o n lt fits = rw (o, not_long w h, n, lt-leb most_classes (length t.classes) lt, lt-leb most_size t.size fits) refl
 
-pub field_ok : (t : Tally) (w : List ℕ) → is_short_identifier w ≡ true → has t.fields w ≡ false → length t.fields < most_fields → t.size < most_size → broken_by t (field_name w) ≡ None
+pub field_ok : (t : Tally) (w : List ℕ) → is_short_identifier w ≡ true → is_among t.fields w ≡ false → length t.fields < most_fields → t.size < most_size → broken_by t (field_name w) ≡ None
 field_ok t w h n lt fits = rw (not_long w h, n, lt-leb most_fields (length t.fields) lt, lt-leb most_size t.size fits) refl
 
-pub method_ok : (t : Tally) (w : List ℕ) → is_short_identifier w ≡ true → has t.methods w ≡ false → length t.methods < most_methods → t.size < most_size → broken_by t (method_name w) ≡ None
+pub method_ok : (t : Tally) (w : List ℕ) → is_short_identifier w ≡ true → is_among t.methods w ≡ false → length t.methods < most_methods → t.size < most_size → broken_by t (method_name w) ≡ None
 method_ok t w h n lt fits = rw (not_long w h, n, lt-leb most_methods (length t.methods) lt, lt-leb most_size t.size fits) refl
 
-pub param_ok : (t : Tally) (w : List ℕ) → is_short_identifier w ≡ true → has t.params w ≡ false → length t.params < most_in_ctor → t.size < most_size → broken_by t (param_name w) ≡ None
+pub param_ok : (t : Tally) (w : List ℕ) → is_short_identifier w ≡ true → is_among t.params w ≡ false → length t.params < most_in_ctor → t.size < most_size → broken_by t (param_name w) ≡ None
 param_ok t w h n lt fits = rw (not_long w h, n, lt-leb most_in_ctor (length t.params) lt, lt-leb most_size t.size fits) refl
 
-pub method_param_ok : (t : Tally) (w : List ℕ) → is_short_identifier w ≡ true → has t.params w ≡ false → length t.params < most_params → t.size < most_size → broken_by t (method_param_name w) ≡ None
+pub method_param_ok : (t : Tally) (w : List ℕ) → is_short_identifier w ≡ true → is_among t.params w ≡ false → length t.params < most_params → t.size < most_size → broken_by t (method_param_name w) ≡ None
 method_param_ok t w h n lt fits = rw (not_long w h, n, lt-leb most_params (length t.params) lt, lt-leb most_size t.size fits) refl
 
 pub sent_ok : (t : Tally) (w : List ℕ) → is_short_identifier w ≡ true → t.sends < most_in_ctor → t.size < most_size → broken_by t (sent_name w) ≡ None

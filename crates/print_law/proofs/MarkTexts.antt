@@ -5,12 +5,12 @@ use Rattle.std.specs.List.{list_all, enumerate_from}
 use Rattle.std.specs.Str.{bytes_eq}
 use Rattle.std.proofs.lemmas.Bool.{and_parts, or_parts}
 use Rattle.std.proofs.lemmas.List.Folds.{list_any-append}
-use Rattle.cfj_model.specs.Names.{is_short_identifier}
+use Rattle.cfj_words.specs.Names.{is_among, is_short_identifier}
 use Rattle.cfj_model.specs.Marks.{spell_mark, spell_marks, roles_marks}
 use Rattle.cfj_model.specs.Print.{texts, mark_text, marks_text}
-use Rattle.cfj_model.specs.ProductLines.{has, are_new, are_distinct}
+use Rattle.cfj_model.specs.ProductLines.{are_new, are_distinct}
 use Rattle.cfj_model.specs.Roles.{Role, Tally, AreWithin}
-use Rattle.cfj_model.specs.Selections.{has_bit}
+use Rattle.cfj_logic.specs.Selections.{has_bit}
 use Rattle.print_law.proofs.Features.{Split, split, split_more, same_text, or_right, marks_from, marks_of}
 use Rattle.print_law.proofs.FormulaRoles.{IsReady}
 use Rattle.print_law.proofs.FormulaTrees.{as_identifier}
@@ -40,15 +40,15 @@ marks_read features colors h = marks_read_from colors 0 features h
 
 -- ---- the limits
 
-has_append : (names : List (List ℕ)) (f w : List ℕ) → has (names ++ f ∷ []) w ≡ (has names w || bytes_eq f w)
-has_append names f w = list_any-append (λ n. bytes_eq n w) names (f ∷ []) ∙ ap (λ b. has names w || b) (or-false (bytes_eq f w))
+has_append : (names : List (List ℕ)) (f w : List ℕ) → is_among (names ++ f ∷ []) w ≡ (is_among names w || bytes_eq f w)
+has_append names f w = list_any-append (λ n. bytes_eq n w) names (f ∷ []) ∙ ap (λ b. is_among names w || b) (or-false (bytes_eq f w))
 
 or_from_false : (a b : Bool) → a ≡ false → b ≡ false → (a || b) ≡ false
 or_from_false true b h k = absurd (true≢false h)
 or_from_false false b h k = k
 
-has_at_seam : (before : List (List ℕ)) (f : List ℕ) (fs : List (List ℕ)) → has (before ++ f ∷ fs) f ≡ true
-has_at_seam before f fs = list_any-append (λ n. bytes_eq n f) before (f ∷ fs) ∙ or_right (has before f) _ (or_left (bytes_eq f f) (has fs f) (same_text f))
+has_at_seam : (before : List (List ℕ)) (f : List ℕ) (fs : List (List ℕ)) → is_among (before ++ f ∷ fs) f ≡ true
+has_at_seam before f fs = list_any-append (λ n. bytes_eq n f) before (f ∷ fs) ∙ or_right (is_among before f) _ (or_left (bytes_eq f f) (is_among fs f) (same_text f))
   where
     or_left : (a b : Bool) → a ≡ true → (a || b) ≡ true
     or_left true b h = refl
@@ -56,15 +56,15 @@ has_at_seam before f fs = list_any-append (λ n. bytes_eq n f) before (f ∷ fs)
 
 -- what isn't among those before a place isn't among the marks met so far
 abbrev AreAmong : List (List ℕ) → List (List ℕ) → Type 0
-AreAmong ms before = (w : List ℕ) → has before w ≡ false → has ms w ≡ false
+AreAmong ms before = (w : List ℕ) → is_among before w ≡ false → is_among ms w ≡ false
 
 among_more : (ms before : List (List ℕ)) (f : List ℕ) → AreAmong ms before → AreAmong ms (before ++ f ∷ [])
-among_more ms before f a w h = a w (or_parts (has before w) (bytes_eq f w) (sym (has_append before f w) ∙ h)).0
+among_more ms before f a w h = a w (or_parts (is_among before w) (bytes_eq f w) (sym (has_append before f w) ∙ h)).0
 
 among_both : (ms before : List (List ℕ)) (f : List ℕ) → AreAmong ms before → AreAmong (ms ++ f ∷ []) (before ++ f ∷ [])
 among_both ms before f a w h =
-    let o = or_parts (has before w) (bytes_eq f w) (sym (has_append before f w) ∙ h) in
-    has_append ms f w ∙ or_from_false (has ms w) (bytes_eq f w) (a w o.0) o.1
+    let o = or_parts (is_among before w) (bytes_eq f w) (sym (has_append before f w) ∙ h) in
+    has_append ms f w ∙ or_from_false (is_among ms w) (bytes_eq f w) (a w o.0) o.1
 
 marks_within_from : (features before fs : List (List ℕ)) (colors n : ℕ) (t : Tally) (rest : List Role) → features ≡ before ++ fs → are_new before fs ≡ true → list_all is_short_identifier fs ≡ true
     → t.features ≡ features → AreAmong t.marks before → ((ms : List (List ℕ)) → AreWithin (record t { marks = ms }) rest) → AreWithin t (roles_marks (marks_from colors n fs) rest)
@@ -82,10 +82,10 @@ marks_within_from features before (f ∷ fs) colors n t rest e d h m a w =
 
     go : (b : Bool) → has_bit colors n ≡ b → AreWithin t (roles_marks (marks_from colors (n + 1) fs) rest) → AreWithin (record t { marks = t.marks ++ f ∷ [] }) (roles_marks (marks_from colors (n + 1) fs) rest)
         → AreWithin t (roles_marks (marks_from colors n (f ∷ fs)) rest)
-    go true c without with = rw c ((refl, (mark_ok t f p.0 (ap (λ fs. has fs f) (m ∙ e) ∙ has_at_seam before f fs) (a f s.fresh), with)))
+    go true c without with = rw c ((refl, (mark_ok t f p.0 (ap (λ fs. is_among fs f) (m ∙ e) ∙ has_at_seam before f fs) (a f s.fresh), with)))
     go false c without with = rw c without
 
 -- the marks of a node are within the limits, whatever marks they leave
 pub marks_within : (features : List (List ℕ)) (colors : ℕ) (t : Tally) (rest : List Role) → are_distinct features ≡ true → list_all is_short_identifier features ≡ true → IsReady features t
     → ((ms : List (List ℕ)) → AreWithin (record t { marks = ms }) rest) → AreWithin t (roles_marks (marks_of features colors) rest)
-marks_within features colors t rest d h r w = marks_within_from features [] features colors 0 t rest refl d h r.met (λ n none. ap (λ ms. has ms n) r.marks) w
+marks_within features colors t rest d h r w = marks_within_from features [] features colors 0 t rest refl d h r.met (λ n none. ap (λ ms. is_among ms n) r.marks) w

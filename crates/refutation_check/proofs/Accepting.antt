@@ -7,12 +7,12 @@ use Rattle.std.proofs.lemmas.Nat.Bits.{bit_at_above}
 use Rattle.std.proofs.lemmas.List.{take-append-le, map-append}
 use Rattle.std.proofs.lemmas.Option.{slice_get_within, slice_get_read}
 use Rattle.std.proofs.Math.Seq.{take-append_seam}
-use Rattle.cfj_model.specs.declared.clauses.Literal.{Literal}
-use Rattle.cfj_model.specs.declared.clauses.Clauses.{Clauses}
-use Rattle.cfj_model.specs.Selections.{has_bit}
-use Rattle.cfj_model.specs.Sides.{Sides, is_over, is_within}
-use Rattle.cfj_model.specs.UnitClauses.{Has}
-use Rattle.cfj_model.specs.Logs.{AreBelow, AreWellFormed, literals, premises, Follows, IsEntry, IsAccepted}
+use Rattle.cfj_logic.specs.declared.clauses.Literal.{Literal}
+use Rattle.cfj_logic.specs.declared.clauses.Clauses.{Clauses}
+use Rattle.cfj_logic.specs.Selections.{has_bit}
+use Rattle.cfj_logic.specs.Sides.{Sides, is_over, is_within}
+use Rattle.cfj_words.specs.Lists.{Has}
+use Rattle.cfj_logic.specs.Logs.{AreBelow, AreWellFormed, literals, premises, Follows, IsEntry, IsAccepted}
 use Rattle.refutation_check.proofs.Members.{lt_or_ge, all_from, has_source, any_has, none_has, slice_get_left, slice_get_end, both_true}
 use Rattle.refutation_check.proofs.ClauseLiterals.{side, literals_has}
 use Rattle.refutation_check.proofs.Passes.{take_next}

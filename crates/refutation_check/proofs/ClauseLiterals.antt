@@ -1,10 +1,10 @@
 -- The literals of clauses over features.
 use Rattle.std.proofs.Common.{◌≡◌, ◌≢◌, eqb, ℕ, zero, suc, ◌+◌, ◌-◌, ◌<◌, ◌≤◌, ◌⊎◌, inl, inr, Bool, true, false, List, ◌++◌, refl, sym, ◌∙◌, ap, arith, append_assoc, append-nil, Some}
-use Rattle.cfj_model.specs.declared.clauses.Literal.{Literal}
-use Rattle.cfj_model.specs.Selections.{has_bit}
-use Rattle.cfj_model.specs.Sides.{Sides}
-use Rattle.cfj_model.specs.UnitClauses.{Has}
-use Rattle.cfj_model.specs.Logs.{literal_if, literals_from, literals}
+use Rattle.cfj_logic.specs.declared.clauses.Literal.{Literal}
+use Rattle.cfj_logic.specs.Selections.{has_bit}
+use Rattle.cfj_logic.specs.Sides.{Sides}
+use Rattle.cfj_words.specs.Lists.{Has}
+use Rattle.cfj_logic.specs.Logs.{literal_if, literals_from, literals}
 use Rattle.refutation_check.proofs.Members.{has_left, has_right, has_split, has_none, has_one}
 use Rattle.std.proofs.lemmas.Bool.Decides.{eqb_tells}
 

@@ -1,9 +1,10 @@
 -- What follows is true.
 use Rattle.std.proofs.Common.{◌≡◌, ℕ, zero, suc, ◌⊎◌, inl, inr, Bool, not, List, [], ◌∷◌, slice_set, Some, None, refl, sym, ◌∙◌, ap, subst}
 use Rattle.std.specs.Prelude.{replicate}
-use Rattle.cfj_model.specs.declared.clauses.Literal.{Literal}
-use Rattle.cfj_model.specs.UnitClauses.{Has, Values, value_of, IsFalse, with_true, with_false, IsUnit, Reaches, here, by_unit, Leads}
-use Rattle.cfj_model.specs.Logs.{Assignment, IsTrueIn, IsModel, assumed_from, assumed, Follows}
+use Rattle.cfj_logic.specs.declared.clauses.Literal.{Literal}
+use Rattle.cfj_words.specs.Lists.{Has}
+use Rattle.cfj_logic.specs.UnitClauses.{Values, value_of, IsFalse, with_true, with_false, IsUnit, Reaches, here, by_unit, Leads}
+use Rattle.cfj_logic.specs.Logs.{Assignment, IsTrueIn, IsModel, assumed_from, assumed, Follows}
 use Rattle.refutation_check.proofs.Members.{has_none}
 use Rattle.refutation_check.proofs.UnitSteps.{set_cases, not_itself, value_cases, leads_here}
 

@@ -2,10 +2,10 @@
 use Rattle.std.proofs.Common.{◌≡◌, ℕ, zero, suc, ◌+◌, ◌-◌, ◌<◌, ◌≤◌, Bool, not, List, [], ◌∷◌, ◌++◌, length, get_or, take, set, Option, Some, None, slice_get, refl, sym, ◌∙◌, ap, arith, append_assoc}
 use Rattle.std.proofs.lemmas.List.{take_more, length-take-le}
 use Rattle.std.specs.Prelude.{replicate}
-use Rattle.cfj_model.specs.Selections.{Chosen, is_on, choices_from}
-use Rattle.cfj_model.specs.declared.clauses.Literal.{Literal}
-use Rattle.cfj_model.specs.UnitClauses.{value_of, with_false}
-use Rattle.cfj_model.specs.Logs.{fixed, assumed_from, assumed}
+use Rattle.cfj_logic.specs.Selections.{Chosen, is_on, choices_from}
+use Rattle.cfj_logic.specs.declared.clauses.Literal.{Literal}
+use Rattle.cfj_logic.specs.UnitClauses.{value_of, with_false}
+use Rattle.cfj_logic.specs.Logs.{fixed, assumed_from, assumed}
 
 pub fixed_none : (n : ℕ) → replicate n None ≡ fixed n []
 fixed_none zero = refl

@@ -4,12 +4,13 @@ use Rattle.std.specs.Prelude.{IfSome, IfNone, IfOk, IsTrue}
 use Rattle.std.specs.List.{list_any}
 use Rattle.std.proofs.lemmas.Bool.{eqb-true}
 use Rattle.std.proofs.lemmas.Option.{slice_get_within}
-use Rattle.cfj_model.specs.declared.clauses.Literal.{Literal}
-use Rattle.cfj_model.specs.declared.clauses.Clauses.{Clauses}
-use Rattle.cfj_model.specs.Selections.{Chosen, is_on, choices}
-use Rattle.cfj_model.specs.Sides.{Sides, empty_clause, is_empty}
-use Rattle.cfj_model.specs.UnitClauses.{Has, Values, value_of, Leads}
-use Rattle.cfj_model.specs.Logs.{Assignment, AreWellFormed, ExtendsToModel, literals, premises, fixed, IsAccepted, IsRefutation, AreForced, Completes, AreSettledByFeatures, IsProofOfLeast}
+use Rattle.cfj_logic.specs.declared.clauses.Literal.{Literal}
+use Rattle.cfj_logic.specs.declared.clauses.Clauses.{Clauses}
+use Rattle.cfj_logic.specs.Selections.{Chosen, is_on, choices}
+use Rattle.cfj_logic.specs.Sides.{Sides, empty_clause, is_empty}
+use Rattle.cfj_words.specs.Lists.{Has}
+use Rattle.cfj_logic.specs.UnitClauses.{Values, value_of, Leads}
+use Rattle.cfj_logic.specs.Logs.{Assignment, AreWellFormed, ExtendsToModel, literals, premises, fixed, IsAccepted, IsRefutation, AreForced, Completes, AreSettledByFeatures, IsProofOfLeast}
 use Rattle.refutation_check.proofs.Members.{any_has, has_any, both_true}
 use Rattle.refutation_check.proofs.UnitSteps.{reaches_within}
 use Rattle.refutation_check.proofs.Consequences.{Agrees, sound}

@@ -4,7 +4,7 @@ use Rattle.std.specs.Prelude.{All}
 use Rattle.std.proofs.lemmas.Option.{slice_get_within, get_or_from_slice_get, slice_get-get_or}
 use Rattle.std.proofs.Math.Seq.{take-length}
 use Rattle.std.specs.List.{list_any}
-use Rattle.cfj_model.specs.UnitClauses.{Has}
+use Rattle.cfj_words.specs.Lists.{Has}
 
 pub has_left : {A : Type 0} (xs ys : List A) (x : A) → Has xs x → Has (xs ++ ys) x
 has_left [] ys x h = absurd (let no : ⊥ = cc h.1 in no)

@@ -3,11 +3,12 @@ use Rattle.std.proofs.Common.{◌≡◌, ℕ, ◌+◌, ◌<◌, ◌≤◌, ◌�
 use Rattle.std.proofs.lemmas.List.{take_more}
 use Rattle.std.proofs.lemmas.Option.{slice_get_read}
 use Rattle.std.specs.Prelude.{All, sum_by}
-use Rattle.cfj_model.specs.declared.clauses.Literal.{Literal}
+use Rattle.cfj_logic.specs.declared.clauses.Literal.{Literal}
 use Rattle.refutation_check.specs.declared.units.Pass.{Pass}
 use Rattle.refutation_check.specs.declared.units.Pass.TheVariants as pass
-use Rattle.cfj_model.specs.UnitClauses.{Has, Values, with_true, IsUnit, Reaches, Leads}
-use Rattle.cfj_model.specs.Logs.{AreBelow}
+use Rattle.cfj_words.specs.Lists.{Has}
+use Rattle.cfj_logic.specs.UnitClauses.{Values, with_true, IsUnit, Reaches, Leads}
+use Rattle.cfj_logic.specs.Logs.{AreBelow}
 use Rattle.refutation_check.specs.Standings.{IsOpen, AreOpen, unvalued, Passes}
 use Rattle.refutation_check.proofs.Members.{has_left, has_right, has_split, has_one, all_has}
 use Rattle.refutation_check.proofs.Standing.{unvalued_falls}

@@ -3,10 +3,11 @@ use Rattle.std.proofs.Common.{◌≡◌, ◌<◌, ◌⊎◌, inl, inr, Bool, tru
 use Rattle.std.proofs.lemmas.Bool.{eqb-true, eq-eqb}
 use Rattle.std.proofs.lemmas.List.Sums.{sum_by-set}
 use Rattle.std.specs.Prelude.{sum_by}
-use Rattle.cfj_model.specs.declared.clauses.Literal.{Literal}
+use Rattle.cfj_logic.specs.declared.clauses.Literal.{Literal}
 use Rattle.refutation_check.specs.declared.units.Standing.{Standing}
 use Rattle.refutation_check.specs.declared.units.Standing.TheVariants.{Open, Falsified, Unit as UnitOf}
-use Rattle.cfj_model.specs.UnitClauses.{Has, Values, value_of, IsFalse, IsUnvalued, with_true, IsFalsified, IsUnit}
+use Rattle.cfj_words.specs.Lists.{Has}
+use Rattle.cfj_logic.specs.UnitClauses.{Values, value_of, IsFalse, IsUnvalued, with_true, IsFalsified, IsUnit}
 use Rattle.refutation_check.specs.Standings.{bool_eq, literal_eq, joined, standing_from, IsOpen, Shows, unvalued}
 use Rattle.refutation_check.proofs.Members.{has_left, has_right, has_split, has_one, has_none, both_true}
 

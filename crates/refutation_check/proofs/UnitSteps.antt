@@ -2,8 +2,9 @@
 use Rattle.std.proofs.Common.{◌≡◌, ◌≢◌, ℕ, zero, suc, ◌<◌, ◌≤◌, ◌⊎◌, inl, inr, Bool, true, false, not, List, [], ◌∷◌, length, slice_set, eqb, Option, Some, None, refl, sym, ◌∙◌, ap, subst, arith}
 use Rattle.std.proofs.lemmas.Bool.Decides.{eqb_tells}
 use Rattle.std.proofs.lemmas.List.{get_or-set_same, get_or-set_other}
-use Rattle.cfj_model.specs.declared.clauses.Literal.{Literal}
-use Rattle.cfj_model.specs.UnitClauses.{Has, Values, value_of, IsFalse, IsUnvalued, with_true, IsFalsified, IsUnit, Reaches, here, by_unit, Leads}
+use Rattle.cfj_logic.specs.declared.clauses.Literal.{Literal}
+use Rattle.cfj_words.specs.Lists.{Has}
+use Rattle.cfj_logic.specs.UnitClauses.{Values, value_of, IsFalse, IsUnvalued, with_true, IsFalsified, IsUnit, Reaches, here, by_unit, Leads}
 use Rattle.refutation_check.specs.Standings.{IsOpen, AreOpen}
 use Rattle.refutation_check.proofs.Members.{lt_or_ge}
 

@@ -1,11 +1,12 @@
 -- What a clause comes to, literal by literal.
 use Rattle.std.specs.Prelude.{◌≡◌, ℕ, ◌<◌, Bool, true, false, not, ◌==◌, ◌&&◌, ◌⊎◌, if◌then◌else◌, List, [], ◌∷◌, sum_by, Option, Some, None}
-use Rattle.cfj_model.specs.declared.clauses.Literal.{Literal}
+use Rattle.cfj_logic.specs.declared.clauses.Literal.{Literal}
 use Rattle.refutation_check.specs.declared.units.Standing.{Standing}
 use Rattle.refutation_check.specs.declared.units.Standing.TheVariants.{Open, Falsified, Unit as UnitOf}
 use Rattle.refutation_check.specs.declared.units.Pass.{Pass}
 use Rattle.refutation_check.specs.declared.units.Pass.TheVariants as pass
-use Rattle.cfj_model.specs.UnitClauses.{Has, Values, value_of, IsUnvalued, IsFalsified, IsUnit}
+use Rattle.cfj_words.specs.Lists.{Has}
+use Rattle.cfj_logic.specs.UnitClauses.{Values, value_of, IsUnvalued, IsFalsified, IsUnit}
 
 -- the two values are the same
 abbrev pub bool_eq : Bool → Bool → Bool

@@ -1,11 +1,12 @@
 ghost use Rattle.std.specs.Prelude.{◌≡◌, ◌↔◌, ◌++◌, map, length, All, IsTrue, IfOk, IfSome, IfNone};
 ghost use Rattle.std.specs.List.{list_any};
-ghost use Rattle.cfj_model.specs.Sides.{is_within, is_empty};
-ghost use Rattle.cfj_model.specs.Logs.{AreBelow, AreWellFormed, IsEntry, IsAccepted, Follows, literals};
+ghost use Rattle.cfj_logic.specs.Sides.{is_within, is_empty};
+ghost use Rattle.cfj_logic.specs.Logs.{AreBelow, AreWellFormed, IsEntry, IsAccepted, Follows, literals};
 
 use crate::premises::{assumed, literals};
 use crate::units::propagate;
-use cfj_model::{Clause, Clauses, Items, Literal};
+use cfj_logic::{Clause, Clauses, Literal};
+use cfj_words::Items;
 use std::alloc::{AllocError, Global};
 
 /// Whether the clause contains all literals of one of these.

@@ -1,12 +1,13 @@
 ghost use Rattle.std.specs.Prelude.{◌≡◌, ◌↔◌, ◌++◌, ◌∷◌, [], false, map, ◌≤◌, ◌<◌, length, All, IsTrue, IfOk};
-ghost use Rattle.cfj_model.specs.Selections.{choices as choices_of};
-ghost use Rattle.cfj_model.specs.UnitClauses.{Leads};
-ghost use Rattle.cfj_model.specs.Logs.{AreBelow, AreWellFormed, AreSettledByFeatures, IsRefutation, IsProofOfLeast, ExtendsToModel, IsForcedAt, AreForced, fixed};
+ghost use Rattle.cfj_logic.specs.Selections.{choices as choices_of};
+ghost use Rattle.cfj_logic.specs.UnitClauses.{Leads};
+ghost use Rattle.cfj_logic.specs.Logs.{AreBelow, AreWellFormed, AreSettledByFeatures, IsRefutation, IsProofOfLeast, ExtendsToModel, IsForcedAt, AreForced, fixed};
 
 use crate::accepted::{accepted, holds_empty};
 use crate::premises::{choices, fixed};
 use crate::units::propagate;
-use cfj_model::{Clauses, Items, Literal, Log, Selection};
+use cfj_logic::{Clauses, Literal, Log, Selection};
+use cfj_words::Items;
 use std::alloc::{AllocError, Global};
 
 /// Whether the log is accepted and holds the empty clause, so that no assignment makes every clause true.

@@ -1,6 +1,6 @@
 ghost use Rattle.std.specs.Prelude.{ℕ, List};
-ghost use Rattle.cfj_model.specs.declared.clauses.Literal.{Literal as SignedVariable};
-ghost use Rattle.cfj_model.specs.Logs.{Assignment, IsModel, IsTrueIn, Follows};
+ghost use Rattle.cfj_logic.specs.declared.clauses.Literal.{Literal as SignedVariable};
+ghost use Rattle.cfj_logic.specs.Logs.{Assignment, IsModel, IsTrueIn, Follows};
 
 /// The law of logs: a clause that follows is true in every assignment that makes all the premises true.
 pub fn consequence()

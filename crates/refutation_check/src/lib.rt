@@ -11,7 +11,7 @@ mod premises;
 mod units;
 
 pub use accepted::is_known;
-pub use cfj_model::{Clauses, Literal};
+pub use cfj_logic::{Clauses, Literal};
 pub use check::{check_least, check_refutation, is_conflict};
 pub use law::consequence;
 pub use premises::literals;

@@ -1,9 +1,10 @@
 ghost use Rattle.std.specs.Prelude.{◌≡◌, ◌<◌, ◌≤◌, [], ◌∷◌, ◌++◌, length, map, slice_get, slice_set, Some, IfOk};
-ghost use Rattle.cfj_model.specs.UnitClauses.{with_false};
-ghost use Rattle.cfj_model.specs.Selections.{choices};
-ghost use Rattle.cfj_model.specs.Logs.{AreBelow, literals, literal_if, assumed, fixed};
+ghost use Rattle.cfj_logic.specs.UnitClauses.{with_false};
+ghost use Rattle.cfj_logic.specs.Selections.{choices};
+ghost use Rattle.cfj_logic.specs.Logs.{AreBelow, literals, literal_if, assumed, fixed};
 
-use cfj_model::{Clause, Items, Literal, Selection};
+use cfj_logic::{Clause, Literal, Selection};
+use cfj_words::Items;
 use std::alloc::{AllocError, Global};
 
 /// Puts a literal at the end of a list where a test is true.

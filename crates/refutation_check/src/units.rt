@@ -1,9 +1,10 @@
 ghost use Rattle.std.specs.Prelude.{◌≡◌, ◌<◌, ◌++◌, ◌↔◌, length, All, IsTrue};
-ghost use Rattle.cfj_model.specs.UnitClauses.{with_true, Reaches, Leads};
-ghost use Rattle.cfj_model.specs.Logs.{AreBelow};
+ghost use Rattle.cfj_logic.specs.UnitClauses.{with_true, Reaches, Leads};
+ghost use Rattle.cfj_logic.specs.Logs.{AreBelow};
 ghost use Rattle.refutation_check.specs.Standings.{joined, Shows, Passes};
 
-use cfj_model::{Items, Literal};
+use cfj_logic::Literal;
+use cfj_words::Items;
 
 /// What a clause comes to under the values that variables have.
 #[derive(Clone, Copy)]

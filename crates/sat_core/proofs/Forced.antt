@@ -4,11 +4,12 @@ use Rattle.std.proofs.lemmas.Bool.Decides.{eqb_tells}
 use Rattle.std.proofs.lemmas.List.{take-append-le}
 use Rattle.std.proofs.lemmas.Option.{slice_get_within}
 use Rattle.std.proofs.Math.Seq.{take-append_seam}
-use Rattle.cfj_model.specs.declared.clauses.Literal.{Literal}
-use Rattle.cfj_model.specs.declared.clauses.Clauses.{Clauses}
-use Rattle.cfj_model.specs.Sides.{Sides}
-use Rattle.cfj_model.specs.UnitClauses.{Has, value_of, IsFalse, IsUnit, with_true, Leads}
-use Rattle.cfj_model.specs.Logs.{literals, premises, fixed, AreForced}
+use Rattle.cfj_logic.specs.declared.clauses.Literal.{Literal}
+use Rattle.cfj_logic.specs.declared.clauses.Clauses.{Clauses}
+use Rattle.cfj_logic.specs.Sides.{Sides}
+use Rattle.cfj_words.specs.Lists.{Has}
+use Rattle.cfj_logic.specs.UnitClauses.{value_of, IsFalse, IsUnit, with_true, Leads}
+use Rattle.cfj_logic.specs.Logs.{literals, premises, fixed, AreForced}
 use Rattle.refutation_check.proofs.Members.{lt_or_ge, has_left, has_right, has_split, has_map, has_source, has_none, slice_get_left, slice_get_end}
 use Rattle.refutation_check.proofs.UnitSteps.{leads_more, leads_after, leads_here, reaches_one}
 use Rattle.refutation_check.proofs.FirstValues.{fixed_at, fixed_past, fixed_set}

@@ -2,12 +2,13 @@
 use Rattle.std.proofs.Common.{◌≡◌, ℕ, zero, suc, ◌+◌, ◌<◌, ◌≤◌, ◌⊎◌, inl, inr, Bool, false, List, [], ◌∷◌, ◌++◌, length, take, map, Some, slice_get, sym, ◌∙◌, ap, subst, arith, length-append}
 use Rattle.std.proofs.lemmas.List.{length-take-le}
 use Rattle.std.proofs.lemmas.Option.{slice_get_within}
-use Rattle.cfj_model.specs.declared.clauses.Literal.{Literal}
-use Rattle.cfj_model.specs.declared.clauses.Clauses.{Clauses}
-use Rattle.cfj_model.specs.Selections.{Chosen, is_on, choices, IsEarlier}
-use Rattle.cfj_model.specs.Sides.{Sides}
-use Rattle.cfj_model.specs.UnitClauses.{Has, value_of, Leads}
-use Rattle.cfj_model.specs.Logs.{Assignment, AreWellFormed, IsModel, IsTrueIn, ExtendsToModel, literals, premises, fixed, IsAccepted, AreForced, AreSettledByFeatures, IsProofOfLeast}
+use Rattle.cfj_logic.specs.declared.clauses.Literal.{Literal}
+use Rattle.cfj_logic.specs.declared.clauses.Clauses.{Clauses}
+use Rattle.cfj_logic.specs.Selections.{Chosen, is_on, choices, IsEarlier}
+use Rattle.cfj_logic.specs.Sides.{Sides}
+use Rattle.cfj_words.specs.Lists.{Has}
+use Rattle.cfj_logic.specs.UnitClauses.{value_of, Leads}
+use Rattle.cfj_logic.specs.Logs.{Assignment, AreWellFormed, IsModel, IsTrueIn, ExtendsToModel, literals, premises, fixed, IsAccepted, AreForced, AreSettledByFeatures, IsProofOfLeast}
 use Rattle.refutation_check.proofs.Members.{lt_or_ge, has_left, has_split, has_source, slice_get_left, slice_get_end}
 use Rattle.refutation_check.proofs.UnitSteps.{leads_more}
 use Rattle.refutation_check.proofs.Consequences.{true_where_follows, sound}

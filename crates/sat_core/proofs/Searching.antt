@@ -8,12 +8,13 @@ use Rattle.std.proofs.lemmas.List.{map-append, get_or-set_same}
 use Rattle.std.proofs.lemmas.List.Folds.{list_any-append}
 use Rattle.std.proofs.lemmas.Option.{slice_get_within, slice_get-get_or}
 use Rattle.std.proofs.lemmas.Nat.{pow_pos}
-use Rattle.cfj_model.specs.declared.clauses.Literal.{Literal}
-use Rattle.cfj_model.specs.declared.clauses.Clauses.{Clauses}
-use Rattle.cfj_model.specs.Selections.{has_bit, is_subset}
-use Rattle.cfj_model.specs.Sides.{Sides, empty_clause, is_empty, is_over, is_within}
-use Rattle.cfj_model.specs.UnitClauses.{Has, Values, value_of, with_false, Leads}
-use Rattle.cfj_model.specs.Logs.{AreWellFormed, literals, premises, assumed_from, assumed, fixed, IsEntry}
+use Rattle.cfj_logic.specs.declared.clauses.Literal.{Literal}
+use Rattle.cfj_logic.specs.declared.clauses.Clauses.{Clauses}
+use Rattle.cfj_logic.specs.Selections.{has_bit, is_subset}
+use Rattle.cfj_logic.specs.Sides.{Sides, empty_clause, is_empty, is_over, is_within}
+use Rattle.cfj_words.specs.Lists.{Has}
+use Rattle.cfj_logic.specs.UnitClauses.{Values, value_of, with_false, Leads}
+use Rattle.cfj_logic.specs.Logs.{AreWellFormed, literals, premises, assumed_from, assumed, fixed, IsEntry}
 use Rattle.refutation_check.proofs.Members.{lt_or_ge, has_left, has_right, has_none, none_has, any_has, has_any, both_true}
 use Rattle.refutation_check.proofs.UnitSteps.{set_cases}
 use Rattle.refutation_check.proofs.FirstValues.{fixed_none, fixed_length, fixed_at, fixed_past, assumed_length, set_length}
@@ -22,7 +23,7 @@ use Rattle.refutation_check.proofs.Accepting.{accepted_push}
 use Rattle.sat_core.specs.Denials.{is_value, IsDenial, IsDenied}
 use Rattle.sat_core.specs.States.{IsLearned, IsConflict}
 use Rattle.sat_core.proofs.Forced.{not_twice}
-use Rattle.cfj_model.proofs.FeatureBits.{subset_has}
+use Rattle.cfj_logic.proofs.FeatureBits.{subset_has}
 
 -- ---- the values that a denial assumes
 

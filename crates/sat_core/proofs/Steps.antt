@@ -1,10 +1,11 @@
 -- The search from step to step.
 use Rattle.std.proofs.Common.{◌≡◌, ℕ, ◌+◌, ◌<◌, ◌≤◌, Bool, true, false, List, [], ◌∷◌, ◌++◌, length, refl, sym, ◌∙◌, ap, subst, arith, length-append, map, slice_get, Some, not}
-use Rattle.cfj_model.specs.declared.clauses.Literal.{Literal}
-use Rattle.cfj_model.specs.declared.clauses.Clauses.{Clauses}
-use Rattle.cfj_model.specs.Sides.{Sides, empty_clause, is_empty}
-use Rattle.cfj_model.specs.UnitClauses.{Has, Leads}
-use Rattle.cfj_model.specs.Logs.{AreWellFormed, literals, premises, fixed, IsRefutation, AreForced}
+use Rattle.cfj_logic.specs.declared.clauses.Literal.{Literal}
+use Rattle.cfj_logic.specs.declared.clauses.Clauses.{Clauses}
+use Rattle.cfj_logic.specs.Sides.{Sides, empty_clause, is_empty}
+use Rattle.cfj_words.specs.Lists.{Has}
+use Rattle.cfj_logic.specs.UnitClauses.{Leads}
+use Rattle.cfj_logic.specs.Logs.{AreWellFormed, literals, premises, fixed, IsRefutation, AreForced}
 use Rattle.refutation_check.proofs.Members.{has_right, has_any, has_map}
 use Rattle.refutation_check.proofs.UnitSteps.{leads_more}
 use Rattle.refutation_check.proofs.Accepting.{accepted_none, accepted_push}

@@ -1,10 +1,10 @@
 -- Clauses that deny the values of the first features.
 use Rattle.std.specs.Prelude.{◌≡◌, ℕ, Bool, false, not, List, Option, Some, None, slice_get}
-use Rattle.cfj_model.specs.declared.clauses.Literal.{Literal}
-use Rattle.cfj_model.specs.Selections.{has_bit}
-use Rattle.cfj_model.specs.Sides.{Sides}
-use Rattle.cfj_model.specs.UnitClauses.{Has}
-use Rattle.cfj_model.specs.Logs.{literals}
+use Rattle.cfj_logic.specs.declared.clauses.Literal.{Literal}
+use Rattle.cfj_logic.specs.Selections.{has_bit}
+use Rattle.cfj_logic.specs.Sides.{Sides}
+use Rattle.cfj_words.specs.Lists.{Has}
+use Rattle.cfj_logic.specs.Logs.{literals}
 use Rattle.refutation_check.specs.Standings.{bool_eq}
 
 -- the value is there, and is this one

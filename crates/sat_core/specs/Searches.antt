@@ -1,10 +1,10 @@
 -- What a search answers.
 use Rattle.std.specs.Prelude.{◌≡◌, ℕ, ◌≤◌, length}
-use Rattle.cfj_model.specs.declared.clauses.Clauses.{Clauses}
-use Rattle.cfj_model.specs.Selections.{Chosen, IsEarlier}
-use Rattle.cfj_model.specs.Sides.{empty_clause}
-use Rattle.cfj_model.specs.UnitClauses.{Has}
-use Rattle.cfj_model.specs.Logs.{ExtendsToModel, IsAccepted, IsRefutation, IsProofOfLeast}
+use Rattle.cfj_logic.specs.declared.clauses.Clauses.{Clauses}
+use Rattle.cfj_logic.specs.Selections.{Chosen, IsEarlier}
+use Rattle.cfj_logic.specs.Sides.{empty_clause}
+use Rattle.cfj_words.specs.Lists.{Has}
+use Rattle.cfj_logic.specs.Logs.{ExtendsToModel, IsAccepted, IsRefutation, IsProofOfLeast}
 use Rattle.sat_core.specs.declared.answer.Answer.{Answer}
 use Rattle.sat_core.specs.declared.answer.Answer.TheVariants.{Refuted, Least, Spent}
 

@@ -1,11 +1,11 @@
 -- What a search keeps from step to step.
 use Rattle.std.specs.Prelude.{◌≡◌, ℕ, ◌≤◌, Bool, true, false, List, [], ◌∷◌, ◌++◌, length, map}
 use Rattle.std.specs.List.{list_any}
-use Rattle.cfj_model.specs.declared.clauses.Literal.{Literal}
-use Rattle.cfj_model.specs.declared.clauses.Clauses.{Clauses}
-use Rattle.cfj_model.specs.Sides.{Sides, is_empty}
-use Rattle.cfj_model.specs.UnitClauses.{Leads}
-use Rattle.cfj_model.specs.Logs.{literals, premises, fixed, IsAccepted, AreForced}
+use Rattle.cfj_logic.specs.declared.clauses.Literal.{Literal}
+use Rattle.cfj_logic.specs.declared.clauses.Clauses.{Clauses}
+use Rattle.cfj_logic.specs.Sides.{Sides, is_empty}
+use Rattle.cfj_logic.specs.UnitClauses.{Leads}
+use Rattle.cfj_logic.specs.Logs.{literals, premises, fixed, IsAccepted, AreForced}
 
 -- the log is accepted, holds no empty clause, and its clauses are the learned ones
 pub record IsLearned (clauses : Clauses) (log : List Sides) (learned : List (List Literal)) : Type 0 where

@@ -1,4 +1,4 @@
-use cfj_model::{Log, Selection};
+use cfj_logic::{Log, Selection};
 
 /// What a search for a model has come to, with the clauses that it learned.
 #[derive(Debug, Drop)]

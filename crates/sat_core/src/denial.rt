@@ -1,9 +1,9 @@
 ghost use Rattle.std.specs.Prelude.{◌≡◌, ◌≤◌, ◌<◌, ℕ, length, true, bit_and};
-ghost use Rattle.cfj_model.specs.Selections.{choices};
-ghost use Rattle.cfj_model.specs.Sides.{is_over};
+ghost use Rattle.cfj_logic.specs.Selections.{choices};
+ghost use Rattle.cfj_logic.specs.Sides.{is_over};
 ghost use Rattle.sat_core.specs.Denials.{IsDenial};
 
-use cfj_model::{Clause, FeatureSet, Selection};
+use cfj_logic::{Clause, FeatureSet, Selection};
 
 /// The clause that denies these values of the first features.
 pub(crate) fn denial(features: u8, prefix: &[bool]) -> Clause

@@ -1,14 +1,15 @@
 ghost use Rattle.std.specs.Prelude.{◌≡◌, ◌↔◌, ◌≤◌, ◌<◌, ◌+◌, ◌++◌, ◌∷◌, [], ℕ, true, length, All, IsTrue, IfOk, OnOk};
-ghost use Rattle.cfj_model.specs.Sides.{Sides, empty_clause};
-ghost use Rattle.cfj_model.specs.UnitClauses.{Has};
-ghost use Rattle.cfj_model.specs.Logs.{AreWellFormed, AreSettledByFeatures, AreBelow};
+ghost use Rattle.cfj_logic.specs.Sides.{Sides, empty_clause};
+ghost use Rattle.cfj_words.specs.Lists.{Has};
+ghost use Rattle.cfj_logic.specs.Logs.{AreWellFormed, AreSettledByFeatures, AreBelow};
 ghost use Rattle.sat_core.specs.Denials.{IsDenied};
 ghost use Rattle.sat_core.specs.States.{IsLearned, IsConflict, IsState, Retreats};
 ghost use Rattle.sat_core.specs.Searches.{AnswerSays};
 
 use crate::answer::Answer;
 use crate::denial::{denial, selection_of};
-use cfj_model::{Clause, Clauses, FeatureSet, Items, Literal, Log};
+use cfj_logic::{Clause, Clauses, FeatureSet, Literal, Log};
+use cfj_words::Items;
 use refutation_check::{is_conflict, is_known, literals};
 use std::alloc::{AllocError, Global};
 

@@ -1,7 +1,7 @@
 -- What the tests know of the clauses that they ask about.
 use Rattle.std.specs.Prelude.{◌≡◌, ℕ, ◌≤◌}
-use Rattle.cfj_model.specs.declared.clauses.Clauses.{Clauses}
-use Rattle.cfj_model.specs.Logs.{AreWellFormed, AreSettledByFeatures}
+use Rattle.cfj_logic.specs.declared.clauses.Clauses.{Clauses}
+use Rattle.cfj_logic.specs.Logs.{AreWellFormed, AreSettledByFeatures}
 
 -- clauses over a few features that a solver and a checker of logs may be asked about
 pub record IsQuestion (features : ℕ) (clauses : Clauses) : Type 0 where

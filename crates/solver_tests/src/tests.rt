@@ -1,12 +1,13 @@
 ghost use Rattle.std.specs.Prelude.{◌≡◌, ◌≤◌, IfOk, IfSome};
-ghost use Rattle.cfj_model.specs.Formulas as spec;
+ghost use Rattle.cfj_logic.specs.Formulas as spec;
 ghost use Rattle.solver_tests.specs.Questions.{IsQuestion};
 
 mod gates;
 mod logs;
 mod searches;
 
-use cfj_model::{Boxed, Clauses, Formula, Selection};
+use cfj_logic::{Clauses, Formula, Selection};
+use cfj_words::Boxed;
 use cnf_form::clauses_of;
 use cond_circuit::Circuit;
 use std::alloc::{AllocError, Global};

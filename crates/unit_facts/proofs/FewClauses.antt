@@ -7,7 +7,7 @@ use Rattle.std.proofs.lemmas.Bool.{and_parts, and_from, or_cases, eqb-true, eq-e
 use Rattle.std.proofs.lemmas.List.{length-map}
 use Rattle.std.proofs.lemmas.Map.Keys.{IsDistinct-cons}
 use Rattle.std.proofs.lemmas.Map.Steps.{length-le_from_distinct_below}
-use Rattle.cfj_model.specs.Sides.{Sides, is_empty, is_over, is_within}
+use Rattle.cfj_logic.specs.Sides.{Sides, is_empty, is_over, is_within}
 use Rattle.unit_facts.specs.Diagnostics.{is_simple, are_fresh}
 use Rattle.unit_facts.proofs.ClauseCodes.{AreApart, apart_from_and, code, code_none, code_below, code_injective}
 

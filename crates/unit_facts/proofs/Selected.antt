@@ -1,7 +1,7 @@
 -- The names of a selection's features, one place at a time.
 use Rattle.std.proofs.Common.{◌≡◌, refl, sym, ap, ◌∙◌, ℕ, ◌+◌, ◌<◌, Bool, true, false, if◌then◌else◌, List, [], ◌∷◌, ◌++◌, length, take, get_or, flat_map, codes, append-nil, arith}
 use Rattle.std.proofs.lemmas.List.{append_assoc, take_more, length-take-le}
-use Rattle.cfj_model.specs.Selections.{Chosen, is_on}
+use Rattle.cfj_logic.specs.Selections.{Chosen, is_on}
 use Rattle.unit_facts.specs.Findings.{selected_from, spaced}
 
 -- what stands between words and the next one

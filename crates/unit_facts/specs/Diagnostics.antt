@@ -4,10 +4,10 @@ use Rattle.std.specs.List.{list_all}
 use Rattle.cfj_model.specs.Judging.{Pair, Breaks, pairs_of}
 use Rattle.cfj_model.specs.ProductLines.{ProductLine}
 use Rattle.cfj_model.specs.Projection.{projected}
-use Rattle.cfj_model.specs.Selections.{Chosen, IsEarlier, is_subset}
-use Rattle.cfj_model.specs.Sides.{Sides, empty_clause, is_empty, is_over, is_within}
-use Rattle.cfj_model.specs.UnitClauses.{Has}
-use Rattle.cfj_model.specs.Validity.{IsValid}
+use Rattle.cfj_logic.specs.Selections.{Chosen, IsEarlier, is_subset}
+use Rattle.cfj_logic.specs.Sides.{Sides, empty_clause, is_empty, is_over, is_within}
+use Rattle.cfj_words.specs.Lists.{Has}
+use Rattle.cfj_logic.specs.Validity.{IsValid}
 use Rattle.unit_facts.specs.declared.entry.Entry.{Entry}
 use Rattle.unit_facts.specs.declared.entry.Entry.TheVariants as entry
 use Rattle.unit_facts.specs.declared.entry.Verdict.{Verdict}
@@ -94,13 +94,14 @@ pub record IsChecked (line : ProductLine) (budget : ℕ) (v : Verdict) (es : Lis
 
 -- ---- what is decided
 
-abbrev pub is_decided_entry : Entry → Bool
-is_decided_entry (entry.Broken site rule selection) = true
-is_decided_entry (entry.Undecided site rule log) = false
+-- the pair breaks under some valid selection; else the entry is undecided
+abbrev pub is_broken : Entry → Bool
+is_broken (entry.Broken site rule selection) = true
+is_broken (entry.Undecided site rule log) = false
 
 abbrev pub is_decided_verdict : Verdict → Bool
 is_decided_verdict (verdict.Unknown log) = false
 is_decided_verdict v = true
 
 abbrev pub are_decided : Verdict → List Entry → Bool
-are_decided v es = is_decided_verdict v && list_all is_decided_entry es
+are_decided v es = is_decided_verdict v && list_all is_broken es

@@ -3,9 +3,10 @@ use Rattle.std.specs.Prelude.{◌≡◌, ℕ, ◌+◌, ◌==◌, Bool, true, fal
 use Rattle.std.specs.List.{list_all}
 use Rattle.std.specs.Fmt.{decimal}
 use Rattle.cfj_model.specs.Sites.{site_text}
-use Rattle.cfj_model.specs.Selections.{Chosen, is_on}
+use Rattle.cfj_logic.specs.Selections.{Chosen, is_on}
 use Rattle.cfj_model.specs.declared.site.Rule.{Rule}
 use Rattle.cfj_model.specs.declared.site.Rule.TheVariants.{K1, K2, K3, K4, K5, K6, K7, K8, E1, E2, E3, E4, E5, E6, E7, E8}
+use Rattle.unit_facts.specs.Diagnostics.{is_broken}
 use Rattle.unit_facts.specs.declared.entry.Entry.{Entry}
 use Rattle.unit_facts.specs.declared.entry.Entry.TheVariants as entry
 use Rattle.unit_facts.specs.declared.entry.Verdict.{Verdict}
@@ -55,10 +56,6 @@ entry_line features (entry.Broken site rule s) =
     codes "broken " ++ (site_text site ++ (codes " " ++ (rule_text rule ++ (codes " " ++ (selection_text features s ++ codes "\n")))))
 entry_line features (entry.Undecided site rule log) =
     codes "undecided " ++ (site_text site ++ (codes " " ++ (rule_text rule ++ (codes " " ++ (decimal (length log) ++ codes "\n")))))
-
-abbrev pub is_broken : Entry → Bool
-is_broken (entry.Broken site rule s) = true
-is_broken (entry.Undecided site rule log) = false
 
 -- how many entries are broken
 abbrev pub broken_count : List Entry → ℕ

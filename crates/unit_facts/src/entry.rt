@@ -1,5 +1,7 @@
+//! What is found of a pair, and of a feature model.
+
 ghost use Rattle.std.specs.Prelude.{◌≡◌};
-ghost use Rattle.unit_facts.specs.Findings.{is_broken};
+ghost use Rattle.unit_facts.specs.Diagnostics.{is_broken};
 
 use cfj_model::{Log, Rule, Selection, Site};
 

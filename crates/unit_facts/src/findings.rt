@@ -1,3 +1,5 @@
+//! The text of findings.
+
 ghost use Rattle.std.specs.Prelude.{◌≡◌, ◌++◌, true, length, flat_map, codes, IfOk, OnOk, string_bytes};
 ghost use Rattle.std.specs.List.{list_all};
 ghost use Rattle.unit_facts.specs.Findings as spec;

@@ -1,3 +1,5 @@
+//! A law over the definitions alone.
+
 ghost use Rattle.std.specs.Prelude.{◌≡◌, ℕ, ◌^◌, ◌≤◌, true, List, length};
 ghost use Rattle.cfj_model.specs.ProductLines.{ProductLine};
 ghost use Rattle.unit_facts.specs.Diagnostics.{IsChecked, are_decided};

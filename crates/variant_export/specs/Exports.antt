@@ -3,8 +3,8 @@ use Rattle.std.specs.Prelude.{◌≡◌, ℕ, List, Result, Ok, Err}
 use Rattle.cfj_model.specs.Print.{plain_printed}
 use Rattle.cfj_model.specs.ProductLines.{ProductLine}
 use Rattle.cfj_model.specs.Projection.{projected}
-use Rattle.cfj_model.specs.Selections.{Chosen}
-use Rattle.cfj_model.specs.Validity.{IsValid, IsFirstFalse}
+use Rattle.cfj_logic.specs.Selections.{Chosen}
+use Rattle.cfj_logic.specs.Validity.{IsValid, IsFirstFalse}
 use Rattle.cide_io.specs.Known.{Known, appended, IsCut}
 use Rattle.variant_export.specs.declared.variant.ExportFault.{ExportFault}
 use Rattle.variant_export.specs.declared.variant.ExportFault.TheVariants.{InvalidSelection, WriteFault}

@@ -4,7 +4,7 @@ ghost use Rattle.std.specs.Prelude.{◌≤◌, ◌<◌, length};
 use super::{
     MOST_FEATURES, and, clauses_for, feat, fits, iff, implies, not, or, selection_of, truth,
 };
-use cfj_model::{Clauses, Formula};
+use cfj_logic::{Clauses, Formula};
 use cond_circuit::Circuit;
 use std::alloc::{AllocError, Global};
 use std::test::Fail;

@@ -3,7 +3,7 @@ ghost use Rattle.std.specs.Prelude.{IfOk, IfSome};
 ghost use Rattle.solver_tests.specs.Questions.{IsQuestion};
 
 use super::{BUDGET, and, clauses_for, feat, not, or, selection_of};
-use cfj_model::{Clause, Clauses, FeatureSet, Formula, Log};
+use cfj_logic::{Clause, Clauses, FeatureSet, Formula, Log};
 use refutation_check::{check_least, check_refutation};
 use sat_core::{Answer, solve};
 use std::alloc::{AllocError, Global};

@@ -6,7 +6,7 @@ use super::{
     BUDGET, MOST_FEATURES, and, clauses_for, feat, iff, implies, is_set, not, or, selection_of,
     truth,
 };
-use cfj_model::{Clauses, Formula, Log};
+use cfj_logic::{Clauses, Formula, Log};
 use refutation_check::{check_least, check_refutation};
 use sat_core::{Answer, solve};
 use std::alloc::{AllocError, Global};

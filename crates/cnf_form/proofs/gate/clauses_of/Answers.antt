@@ -1,6 +1,6 @@
 use Rattle.std.proofs.Common.{◌≡◌, ◌↔◌, true, Result, Ok, Err, IfOk}
-use Rattle.cfj_model.specs.Selections.{Chosen}
-use Rattle.cfj_model.specs.Logs.{AreSettledByFeatures, AreWellFormed, ExtendsToModel}
+use Rattle.cfj_logic.specs.Selections.{Chosen}
+use Rattle.cfj_logic.specs.Logs.{AreSettledByFeatures, AreWellFormed, ExtendsToModel}
 use Rattle.cond_circuit.specs.Gates.{value}
 use Rattle.cnf_form.specs.GateClauses.{AreClausesOf}
 use Rattle.cnf_form.proofs.Extending.{extends_where_true}

@@ -1,6 +1,6 @@
 use Rattle.std.proofs.Common.{◌∙◌, ap, sym, length, slice_get, arith}
-use Rattle.cfj_model.specs.ProductLines.{has}
-use Rattle.cfj_model.specs.Selections.{Chosen}
+use Rattle.cfj_words.specs.Names.{is_among}
+use Rattle.cfj_logic.specs.Selections.{Chosen}
 use Rattle.feature_model.proofs.Spelling.{spelled_nothing, no_feature, feature_within, named_twice, spelled_more}
 use Rattle.feature_model.proofs.names.read_selection.Goals as goal
 
@@ -12,7 +12,7 @@ names-init c =
 pub returns-in-None-clause-fault : goal.returns-in-None-clause-fault
 returns-in-None-clause-fault c =
     no_feature c.args.model.now.features c.args.names.now c.names.index _ c.names.selection c.names.invariant (omega arith) c.index-names-index.is
-    (ap (λ fs. has fs c.index-names-index.result) (sym c.slice-features.ensures) ∙ c.in-None.ensures.none)
+    (ap (λ fs. is_among fs c.index-names-index.result) (sym c.slice-features.ensures) ∙ c.in-None.ensures.none)
 
 pub has-requires : goal.has-requires
 has-requires c =

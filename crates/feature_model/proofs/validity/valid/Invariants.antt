@@ -1,6 +1,6 @@
 use Rattle.std.proofs.Common.{◌≡◌, true, take}
 use Rattle.std.specs.List.{list_all}
-use Rattle.cfj_model.specs.Formulas.{truth}
+use Rattle.cfj_logic.specs.Formulas.{truth}
 use Rattle.feature_model.proofs.validity.valid.Given as goal
 
 -- the constraints before the place are true

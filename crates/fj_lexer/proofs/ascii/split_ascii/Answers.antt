@@ -1,7 +1,7 @@
 use Rattle.std.proofs.Common.{◌≤◌, length, get_or, drop, sym, subst, arith}
 use Rattle.std.proofs.lemmas.Bool.{ltb-true, ltb-false, eqb-true, eqb-false}
 use Rattle.std.proofs.lemmas.Str.{IsCharBoundary-from_drop}
-use Rattle.cfj_model.specs.Characters.{IsSplit}
+use Rattle.cfj_words.specs.Characters.{IsSplit}
 use Rattle.fj_lexer.proofs.Ahead.{split}
 use Rattle.fj_lexer.proofs.Wide.{begins, empty}
 use Rattle.fj_lexer.proofs.ascii.split_ascii.Goals as goal

@@ -1,6 +1,6 @@
 use Rattle.std.proofs.Common.{sym, ◌∙◌}
 use Rattle.std.proofs.lemmas.Bool.{ltb-true}
-use Rattle.cfj_model.proofs.AsciiWords.{starts_ascii}
+use Rattle.cfj_words.proofs.AsciiWords.{starts_ascii}
 use Rattle.fj_lexer.proofs.lexeme.begins_word.Goals as goal
 
 pub returns-then-is_ascii : goal.returns-then-is_ascii

@@ -1,6 +1,6 @@
 use Rattle.std.proofs.Common.{◌∷◌, refl, sym, ap, ◌∙◌}
 use Rattle.std.specs.Str.{chars}
-use Rattle.cfj_model.specs.Lexemes.{Word, Mark, word_run}
+use Rattle.cfj_words.specs.Lexemes.{Word, Mark, word_run}
 use Rattle.fj_lexer.specs.Kinds.{word_kind}
 use Rattle.fj_lexer.proofs.Parts.{Stands, word, mark, stands_end, stands_bytes}
 use Rattle.fj_lexer.proofs.lexeme.first_piece.Goals as goal

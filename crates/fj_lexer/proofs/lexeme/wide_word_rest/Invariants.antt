@@ -1,6 +1,6 @@
 use Rattle.std.proofs.Common.{◌≡◌, length}
 use Rattle.std.specs.Str.{chars, IsUtf8}
-use Rattle.cfj_model.specs.Lexemes.{word_rest}
+use Rattle.cfj_words.specs.Lexemes.{word_rest}
 use Rattle.fj_lexer.proofs.lexeme.wide_word_rest.Given as goal
 
 abbrev pub invariant-word : goal.invariant-word

@@ -1,6 +1,6 @@
 use Rattle.std.proofs.Common.{◌≡◌, ◌≤◌, length, ℕ, List}
 use Rattle.std.specs.Str.{chars, IsUtf8}
-use Rattle.cfj_model.specs.Lexemes.{skipped, block}
+use Rattle.cfj_words.specs.Lexemes.{skipped, block}
 use Rattle.fj_lexer.specs.Skipping.{in_block}
 use Rattle.fj_lexer.proofs.skip.block_rest.Given as goal
 

@@ -1,6 +1,6 @@
 use Rattle.std.proofs.Common.{◌≡◌, ◌≤◌, length}
 use Rattle.std.specs.Str.{chars, IsUtf8}
-use Rattle.cfj_model.specs.Lexemes.{skipped, line}
+use Rattle.cfj_words.specs.Lexemes.{skipped, line}
 use Rattle.fj_lexer.proofs.skip.line_rest.Given as goal
 
 abbrev pub invariant-line : goal.invariant-line

@@ -1,6 +1,6 @@
 use Rattle.std.proofs.Common.{◌≡◌, length}
 use Rattle.std.specs.Str.{chars, IsUtf8}
-use Rattle.cfj_model.specs.Lexemes.{skipped, blanks}
+use Rattle.cfj_words.specs.Lexemes.{skipped, blanks}
 use Rattle.fj_lexer.proofs.skip.skip_blanks.Given as goal
 
 abbrev pub invariant-blanks : goal.invariant-blanks

@@ -23,12 +23,12 @@ returns-in_err-machine-clause-fault c = λ at kind e.
     part_fault c.under.result reads.Class features unnamed c.under.ensures (single_classes features) (class_laws features) refl c.args.text.now at kind c.utf8.text (c.read_text.ensures.fault at kind told)
 
 pub only-requires : goal.only-requires
-only-requires c = ap length (one_class c.under.result c.args.model.now.features c.under.ensures c.args.text.now (machine_seen c.in_ok-machine.machine) c.in_ok-machine.ensures.read).1
+only-requires c = ap (λ x. length x.items) c.into_classes.ensures ∙ ap length (one_class c.under.result c.args.model.now.features c.under.ensures c.args.text.now (machine_seen c.in_ok-machine.machine.value) c.in_ok-machine.ensures.read).1
 
 pub returns-clause-read : goal.returns-clause-read
 returns-clause-read c =
     let features = c.args.model.now.features in
-    let n = machine_seen c.in_ok-machine.machine in
+    let n = machine_seen c.in_ok-machine.machine.value in
     let k = one_class c.under.result features c.under.ensures c.args.text.now n c.in_ok-machine.ensures.read in
-    subst (IsTextOf (single_classes features) c.args.text.now) (k.2 ∙ one_item n.classes k.0 c.only.result k.1 c.only.ensures)
+    subst (IsTextOf (single_classes features) c.args.text.now) (k.2 ∙ one_item c.into_classes.result.items k.0 c.only.result (ap (λ y. y.items) c.into_classes.ensures ∙ k.1) c.only.ensures)
     (part_text c.under.result reads.Class features unnamed c.under.ensures (single_classes features) (class_laws features) refl c.args.text.now n c.utf8.text c.in_ok-machine.ensures.read)

@@ -1,4 +1,4 @@
-use Rattle.std.proofs.Common.{◌≡◌, Err, refl, subst}
+use Rattle.std.proofs.Common.{◌≡◌, Err, refl, subst, ◌∙◌, sym}
 use Rattle.std.proofs.lemmas.Result.{err_from_is_err_and}
 use Rattle.cfj_model.specs.declared.fault.ParseFault.TheVariants.{At}
 use Rattle.cfj_model.specs.Faults.{IsTextOf}
@@ -27,6 +27,6 @@ pub returns-clause-read : goal.returns-clause-read
 returns-clause-read c =
     let features = c.args.model.now.features in
     let class = c.args.class.now in
-    let n = machine_seen c.in_ok-machine.machine in
-    subst (IsTextOf (constructors features class) c.args.text.now) (constructor_stands features class c.requires.identifier n)
+    let n = machine_seen c.in_ok-machine.machine.value in
+    subst (IsTextOf (constructors features class) c.args.text.now) (constructor_stands features class c.requires.identifier n ∙ sym c.into_ctor.ensures)
     (part_text c.constructor.result reads.Constructor features class c.constructor.ensures (constructors features class) (constructor_laws features class c.requires.identifier) refl c.args.text.now n c.utf8.text c.in_ok-machine.ensures.read)

@@ -23,11 +23,11 @@ returns-in_err-machine-clause-fault c = λ at kind e.
     part_fault c.alone.result reads.Expression [] unnamed c.alone.ensures expressions expression_laws refl c.args.text.now at kind c.utf8.text (c.read_text.ensures.fault at kind told)
 
 pub only-requires : goal.only-requires
-only-requires c = ap length (one_body c.alone.result c.alone.ensures c.args.text.now (machine_seen c.in_ok-machine.machine) c.in_ok-machine.ensures.read).1
+only-requires c = ap (λ x. length x.items) c.into_members.ensures.methods ∙ ap length (one_body c.alone.result c.alone.ensures c.args.text.now (machine_seen c.in_ok-machine.machine.value) c.in_ok-machine.ensures.read).1
 
 pub returns-clause-read : goal.returns-clause-read
 returns-clause-read c =
-    let n = machine_seen c.in_ok-machine.machine in
+    let n = machine_seen c.in_ok-machine.machine.value in
     let m = one_body c.alone.result c.alone.ensures c.args.text.now n c.in_ok-machine.ensures.read in
-    subst (IsTextOf expressions c.args.text.now) (m.2 ∙ ap (λ (x : Method). x.body) (one_item n.methods m.0 c.only.result m.1 c.only.ensures))
+    subst (IsTextOf expressions c.args.text.now) (m.2 ∙ ap (λ (x : Method). x.body) (one_item c.into_members.result.1.items m.0 c.only.result (ap (λ y. y.items) c.into_members.ensures.methods ∙ m.1) c.only.ensures))
     (part_text c.alone.result reads.Expression [] unnamed c.alone.ensures expressions expression_laws refl c.args.text.now n c.utf8.text c.in_ok-machine.ensures.read)

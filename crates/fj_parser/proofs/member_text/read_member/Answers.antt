@@ -1,4 +1,4 @@
-use Rattle.std.proofs.Common.{◌≡◌, Err, refl, subst}
+use Rattle.std.proofs.Common.{◌≡◌, Err, refl, subst, ap, ◌∙◌, length, arith}
 use Rattle.std.proofs.lemmas.Result.{err_from_is_err_and}
 use Rattle.cfj_model.specs.declared.fault.ParseFault.TheVariants.{At}
 use Rattle.cfj_model.specs.Faults.{IsTextOf}
@@ -26,13 +26,16 @@ returns-in_err-machine-clause-fault c = λ at kind e.
 pub one_of-requires : goal.one_of-requires
 one_of-requires c =
     let features = c.args.model.now.features in
-    let n = machine_seen c.in_ok-machine.machine in
-    one_in_all features n _ (one_member c.under.result features c.under.ensures c.args.text.now n c.in_ok-machine.ensures.read)
+    let n = machine_seen c.in_ok-machine.machine.value in
+    let a = ap (λ x. length x.items) c.into_members-fields.ensures.fields in
+    let b = ap (λ x. length x.items) c.into_members-fields.ensures.methods in
+    let both = one_in_all features n _ (one_member c.under.result features c.under.ensures c.args.text.now n c.in_ok-machine.ensures.read) in
+    omega (arith, a, b, both)
 
 pub returns-clause-read : goal.returns-clause-read
 returns-clause-read c =
     let features = c.args.model.now.features in
-    let n = machine_seen c.in_ok-machine.machine in
+    let n = machine_seen c.in_ok-machine.machine.value in
     subst (IsTextOf (single_members features) c.args.text.now)
-    (the_member features n _ c.one_of.result (one_member c.under.result features c.under.ensures c.args.text.now n c.in_ok-machine.ensures.read) c.one_of.ensures.field c.one_of.ensures.method)
+    (the_member features n _ c.one_of.result (one_member c.under.result features c.under.ensures c.args.text.now n c.in_ok-machine.ensures.read) (λ f e. c.one_of.ensures.field f (ap (λ x. x.items) c.into_members-fields.ensures.fields ∙ e)) (λ m e d. c.one_of.ensures.method m (ap (λ x. x.items) c.into_members-fields.ensures.fields ∙ e) (ap (λ x. x.items) c.into_members-fields.ensures.methods ∙ d)))
     (part_text c.under.result reads.Member features unnamed c.under.ensures (single_members features) (member_laws features) refl c.args.text.now n c.utf8.text c.in_ok-machine.ensures.read)

@@ -23,6 +23,6 @@ returns-in_err-machine-clause-fault c = λ at kind e.
 
 pub returns-clause-read : goal.returns-clause-read
 returns-clause-read c =
-    let n = machine_seen c.in_ok-machine.machine in
+    let n = machine_seen c.in_ok-machine.machine.value in
     subst (IsTextOf models c.args.text.now) (model_stands n ∙ ap (λ (l : ProductLine). l.model) (sym c.into_parts-model.ensures))
     (part_text c.alone.result reads.Model [] unnamed c.alone.ensures models model_laws refl c.args.text.now n c.utf8.text c.in_ok-machine.ensures.read)

@@ -1,4 +1,4 @@
-use Rattle.std.proofs.Common.{◌≡◌, [], Err, refl, subst}
+use Rattle.std.proofs.Common.{◌≡◌, [], Err, refl, subst, sym, ◌∙◌}
 use Rattle.std.proofs.lemmas.Result.{err_from_is_err_and}
 use Rattle.cfj_model.specs.declared.fault.ParseFault.TheVariants.{At}
 use Rattle.cfj_model.specs.Faults.{IsTextOf}
@@ -22,6 +22,6 @@ returns-in_err-machine-clause-fault c = λ at kind e.
 
 pub returns-clause-read : goal.returns-clause-read
 returns-clause-read c =
-    let n = machine_seen c.in_ok-machine.machine in
-    subst (IsTextOf names c.args.text.now) (name_stands n)
+    let n = machine_seen c.in_ok-machine.machine.value in
+    subst (IsTextOf names c.args.text.now) (name_stands n ∙ sym c.into_name.ensures.name)
     (part_text c.alone.result reads.Name [] unnamed c.alone.ensures names name_laws refl c.args.text.now n c.utf8.text c.in_ok-machine.ensures.read)

@@ -20,6 +20,6 @@ returns-in_err-machine-clause-fault c = λ at kind e.
 
 pub returns-clause-read : goal.returns-clause-read
 returns-clause-read c =
-    let n = machine_seen c.in_ok-machine.machine in
+    let n = machine_seen c.in_ok-machine.machine.value in
     subst (IsTextOf projects c.args.text.now) (sym c.into_parts.ensures)
     (subst (IsTextOf projects c.args.text.now) (stands n) (part_text c.alone.result Project [] unnamed c.alone.ensures projects laws refl c.args.text.now n c.utf8.text c.in_ok-machine.ensures.read))

@@ -1,11 +1,11 @@
 use Rattle.std.proofs.Common.{◌≡◌, ℕ, List, Err, refl, ap, subst, sym, ◌∙◌, length}
 use Rattle.std.proofs.lemmas.Result.{err_from_is_err_and, on_ok_weaker}
 use Rattle.std.specs.Str.{chars}
-use Rattle.cfj_model.specs.Lexemes.{next_lexeme}
+use Rattle.cfj_words.specs.Lexemes.{next_lexeme}
 use Rattle.fj_lexer.specs.Lexing.{Gives}
 use Rattle.cfj_model.specs.declared.fault.ParseFault.TheVariants.{At}
 use Rattle.cfj_model.specs.declared.fault.FaultKind.{FaultKind}
-use Rattle.cfj_model.specs.Tokens.{End}
+use Rattle.cfj_words.specs.Tokens.{End}
 use Rattle.fj_parser.specs.MachineViews.{machine_seen}
 use Rattle.fj_tally.specs.Views.{tally_seen}
 use Rattle.fj_symbols.specs.Views.{symbol_seen}

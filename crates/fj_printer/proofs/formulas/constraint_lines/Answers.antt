@@ -2,8 +2,8 @@ use Rattle.std.proofs.Common.{◌≡◌, refl, ◌∙◌, ℕ, ◌<◌, Bool, tr
 use Rattle.std.specs.List.{list_all}
 use Rattle.std.proofs.lemmas.Bool.{and_parts}
 use Rattle.std.proofs.lemmas.List.Folds.{list_all_at}
-use Rattle.cfj_model.specs.declared.formula.Formula.{Formula}
-use Rattle.cfj_model.specs.Formulas.{is_over}
+use Rattle.cfj_logic.specs.declared.formula.Formula.{Formula}
+use Rattle.cfj_logic.specs.Formulas.{is_over}
 use Rattle.cfj_model.specs.Print.{constraint_text}
 use Rattle.cfj_model.specs.ProductLines.{is_constraint}
 use Rattle.fj_printer.proofs.Composing.{adds_more, adds_stopped}

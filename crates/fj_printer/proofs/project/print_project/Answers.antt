@@ -3,7 +3,7 @@ use Rattle.std.proofs.lemmas.List.{append_assoc}
 use Rattle.std.specs.List.{filter}
 use Rattle.cfj_model.specs.declared.class.Class.{Class}
 use Rattle.cfj_model.specs.declared.feature_model.FeatureModel.{FeatureModel}
-use Rattle.cfj_model.specs.declared.formula.Formula.{Formula}
+use Rattle.cfj_logic.specs.declared.formula.Formula.{Formula}
 use Rattle.cfj_model.specs.Print.{texts, constraint_text, class_text, features_text, printed}
 use Rattle.cfj_model.specs.ProductLines.{ProductLine}
 use Rattle.fj_printer.proofs.Composing.{adds_then, all_flushed, all_failed}

@@ -1,5 +1,5 @@
 use Rattle.std.proofs.Common.{ℕ, ◌+◌, ◌^◌, bit_and, bit_or, sym, ◌∙◌, ap, subst, arith}
-use Rattle.cfj_model.specs.Sides.{Sides}
+use Rattle.cfj_logic.specs.Sides.{Sides}
 use Rattle.plain_judge.specs.Denials.{lacking}
 use Rattle.plain_judge.proofs.Bits.{lacking_apart}
 use Rattle.plain_judge.proofs.Denying.{IsDeniedTo, denied_to_none, denied_to_had, denied_to_lacked, denied_to_all}

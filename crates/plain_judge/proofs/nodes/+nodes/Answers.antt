@@ -1,4 +1,5 @@
 use Rattle.std.proofs.Common.{[], ◌∷◌, ◌++◌, sym, ◌∙◌, ap}
+use Rattle.cfj_model.specs.Judging.{insert_ranked, rank}
 use Rattle.cfj_model.specs.declared.site.Rule.TheVariants.{K1, E3, E4, E5, E6, E7, E8}
 use Rattle.plain_judge.specs.BodySites.{node_site}
 use Rattle.plain_judge.specs.Pairs.{arg_pairs, node_pairs, pairs_at}
@@ -21,24 +22,24 @@ add_nodes-returns-in_ok-add-in-Call t c =
     ∙ ap (λ xs. on ++ (own ++ arg_pairs at E5 xs)) (sym c.slice.ensures))
     c.add_args.ensures
 
-pub add_nodes-returns-in_ok-add-in-New : goal.add_nodes-returns-in_ok-add-in-New
-add_nodes-returns-in_ok-add-in-New t c =
+pub add_nodes-returns-in_ok-add_among-in-New : goal.add_nodes-returns-in_ok-add_among-in-New
+add_nodes-returns-in_ok-add_among-in-New t c =
     let at = node_site c.args.body.now in
     let more = c.args.more.now in
-    let own = pairs_at (at c.in-New.slot) (K1 ∷ (E6 ∷ more)) in
-    two_added c.add_args-in-New.result c.args.pairs.now.items c.add-in-New.new.pairs.items c.add_args-in-New.new.pairs.items own (arg_pairs at E7 c.slice-in-New.result.now)
+    let own = pairs_at (at c.in-New.slot) (K1 ∷ insert_ranked rank E6 more) in
+    two_added c.add_args-in-New.result c.args.pairs.now.items c.add_among.new.pairs.items c.add_args-in-New.new.pairs.items own (arg_pairs at E7 c.slice-in-New.result.now)
     (node_pairs at c.args.expr.now more)
-    c.in_ok-add-in-New.ensures
+    c.in_ok-add_among-in-New.ensures
     (ap (λ x. node_pairs at x more) c.in-New.is ∙ node_new at c.in-New.slot c.in-New.class c.in-New.args more ∙ ap (λ xs. own ++ arg_pairs at E7 xs) (sym c.slice-in-New.ensures))
     c.add_args-in-New.ensures
 
-pub add_nodes-returns-in_ok-add-in-Cast : goal.add_nodes-returns-in_ok-add-in-Cast
-add_nodes-returns-in_ok-add-in-Cast t c =
+pub add_nodes-returns-in_ok-add_among-in-Cast : goal.add_nodes-returns-in_ok-add_among-in-Cast
+add_nodes-returns-in_ok-add_among-in-Cast t c =
     let at = node_site c.args.body.now in
     let more = c.args.more.now in
-    let own = pairs_at (at c.in-Cast.slot) (K1 ∷ (E8 ∷ more)) in
-    two_added c.add_nodes-in-Cast.result c.args.pairs.now.items c.add-in-Cast.new.pairs.items c.add_nodes-in-Cast.new.pairs.items own (node_pairs at c.get-in-Cast.result.now [])
+    let own = pairs_at (at c.in-Cast.slot) (K1 ∷ insert_ranked rank E8 more) in
+    two_added c.add_nodes-in-Cast.result c.args.pairs.now.items c.add_among-in-Cast.new.pairs.items c.add_nodes-in-Cast.new.pairs.items own (node_pairs at c.get-in-Cast.result.now [])
     (node_pairs at c.args.expr.now more)
-    c.in_ok-add-in-Cast.ensures
+    c.in_ok-add_among-in-Cast.ensures
     (ap (λ x. node_pairs at x more) c.in-Cast.is ∙ node_cast at c.in-Cast.slot c.in-Cast.class c.in-Cast.on more ∙ ap (λ x. own ++ node_pairs at x []) (sym c.get-in-Cast.ensures))
     c.add_nodes-in-Cast.ensures

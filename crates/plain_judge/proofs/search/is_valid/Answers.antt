@@ -1,7 +1,7 @@
 use Rattle.std.proofs.Common.{◌≡◌, Result, Ok, Err, Bool, is_ok, subst}
 use Rattle.std.specs.Prelude.{◌↔◌, IsTrue, OnOk, IfErr}
-use Rattle.cfj_model.specs.Selections.{Chosen}
-use Rattle.cfj_model.specs.Validity.{IsValid, IsFirstFalse}
+use Rattle.cfj_logic.specs.Selections.{Chosen}
+use Rattle.cfj_logic.specs.Validity.{IsValid, IsFirstFalse}
 use Rattle.cfj_model.specs.declared.feature_model.FeatureModel.{FeatureModel}
 use Rattle.feature_model.specs.declared.validity.Failing.{Failing}
 use Rattle.plain_judge.proofs.Sought.{first_false}

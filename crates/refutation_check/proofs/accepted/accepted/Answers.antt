@@ -1,6 +1,6 @@
 use Rattle.std.proofs.Common.{take, map, arith, sym, ◌∙◌, ap, subst}
 use Rattle.std.specs.Prelude.{All}
-use Rattle.cfj_model.specs.Logs.{AreBelow, IsAccepted, literals}
+use Rattle.cfj_logic.specs.Logs.{AreBelow, IsAccepted, literals}
 use Rattle.refutation_check.proofs.Members.{all_taken}
 use Rattle.refutation_check.proofs.Accepting.{accepted_below, accepted_at, accepted_next, learned_next}
 use Rattle.refutation_check.proofs.accepted.accepted.Goals as goal

@@ -1,5 +1,5 @@
 use Rattle.std.proofs.Common.{◌≡◌, take, map}
-use Rattle.cfj_model.specs.Logs.{literals, IsAccepted}
+use Rattle.cfj_logic.specs.Logs.{literals, IsAccepted}
 use Rattle.refutation_check.proofs.accepted.accepted.Given as goal
 
 abbrev pub invariant-loop-place : goal.invariant-loop-place

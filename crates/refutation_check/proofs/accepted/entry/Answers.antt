@@ -1,5 +1,5 @@
 use Rattle.std.proofs.Common.{◌≡◌, ◌++◌, ◌∙◌, sym, subst, true, false}
-use Rattle.cfj_model.specs.Logs.{AreBelow, Follows}
+use Rattle.cfj_logic.specs.Logs.{AreBelow, Follows}
 use Rattle.refutation_check.proofs.Accepting.{over_below, entry_of, entry_follows, known_not_entry}
 use Rattle.refutation_check.proofs.accepted.entry.Goals as goal
 

@@ -1,7 +1,7 @@
 use Rattle.std.proofs.Common.{◌≡◌, ◌++◌, length, sym, ◌∙◌, ap, subst, inl}
 use Rattle.std.specs.Prelude.{All}
-use Rattle.cfj_model.specs.UnitClauses.{Leads}
-use Rattle.cfj_model.specs.Logs.{AreBelow, assumed}
+use Rattle.cfj_logic.specs.UnitClauses.{Leads}
+use Rattle.cfj_logic.specs.Logs.{AreBelow, assumed}
 use Rattle.refutation_check.proofs.FirstValues.{assumed_length}
 use Rattle.refutation_check.proofs.Consequences.{follows_leads}
 use Rattle.refutation_check.proofs.accepted.follows.Goals as goal

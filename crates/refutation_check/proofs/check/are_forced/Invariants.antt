@@ -1,5 +1,5 @@
 use Rattle.std.proofs.Common.{◌<◌, ◌++◌, ℕ}
-use Rattle.cfj_model.specs.Logs.{IsForcedAt}
+use Rattle.cfj_logic.specs.Logs.{IsForcedAt}
 use Rattle.refutation_check.proofs.check.are_forced.Given as goal
 
 abbrev pub invariant-loop-feature : goal.invariant-loop-feature

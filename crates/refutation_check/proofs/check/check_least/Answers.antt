@@ -1,6 +1,6 @@
 use Rattle.std.proofs.Common.{◌≡◌, ◌++◌, length, sym, ◌∙◌, ap, subst, arith}
 use Rattle.std.specs.Prelude.{All}
-use Rattle.cfj_model.specs.Logs.{AreBelow, AreForced, IsAccepted, IsProofOfLeast}
+use Rattle.cfj_logic.specs.Logs.{AreBelow, AreForced, IsAccepted, IsProofOfLeast}
 use Rattle.refutation_check.proofs.Accepting.{accepted_below}
 use Rattle.refutation_check.proofs.Least.{choices_length, same_answer, proof_of_least, proof_forced}
 use Rattle.refutation_check.proofs.check.check_least.Goals as goal

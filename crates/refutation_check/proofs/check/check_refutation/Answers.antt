@@ -1,8 +1,8 @@
 use Rattle.std.proofs.Common.{◌≡◌, map, sym, ◌∙◌, ap, subst, Vec, Global, List}
 use Rattle.std.specs.List.{list_any}
-use Rattle.cfj_model.specs.declared.clauses.Literal.{Literal}
-use Rattle.cfj_model.specs.Sides.{is_empty}
-use Rattle.cfj_model.specs.Logs.{IsAccepted, literals}
+use Rattle.cfj_logic.specs.declared.clauses.Literal.{Literal}
+use Rattle.cfj_logic.specs.Sides.{is_empty}
+use Rattle.cfj_logic.specs.Logs.{IsAccepted, literals}
 use Rattle.refutation_check.proofs.Least.{refuted, refutation_holds_empty, where_some, some_where}
 use Rattle.refutation_check.proofs.check.check_refutation.Goals as goal
 

@@ -1,6 +1,6 @@
 use Rattle.std.proofs.Common.{◌≡◌, ◌++◌, length, sym, ◌∙◌, ap, subst, refl, arith, true, false}
-use Rattle.cfj_model.specs.UnitClauses.{Leads}
-use Rattle.cfj_model.specs.Logs.{fixed}
+use Rattle.cfj_logic.specs.UnitClauses.{Leads}
+use Rattle.cfj_logic.specs.Logs.{fixed}
 use Rattle.refutation_check.proofs.Least.{choices_length, extends_no_conflict, settled_extends, no_learned, with_none}
 use Rattle.refutation_check.proofs.check.extends.Goals as goal
 

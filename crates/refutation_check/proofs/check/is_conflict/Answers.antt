@@ -1,7 +1,7 @@
 use Rattle.std.proofs.Common.{◌≡◌, ◌++◌, length, sym, ◌∙◌, ap, subst}
 use Rattle.std.specs.Prelude.{All}
-use Rattle.cfj_model.specs.UnitClauses.{Leads}
-use Rattle.cfj_model.specs.Logs.{AreBelow, fixed}
+use Rattle.cfj_logic.specs.UnitClauses.{Leads}
+use Rattle.cfj_logic.specs.Logs.{AreBelow, fixed}
 use Rattle.refutation_check.proofs.FirstValues.{fixed_length}
 use Rattle.refutation_check.proofs.check.is_conflict.Goals as goal
 

@@ -1,5 +1,5 @@
 use Rattle.std.proofs.Common.{◌≡◌, drop}
-use Rattle.cfj_model.specs.Logs.{assumed_from, assumed}
+use Rattle.cfj_logic.specs.Logs.{assumed_from, assumed}
 use Rattle.refutation_check.proofs.premises.assumed.Given as goal
 
 abbrev pub invariant-loop-literal : goal.invariant-loop-literal

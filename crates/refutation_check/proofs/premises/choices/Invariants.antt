@@ -1,5 +1,5 @@
 use Rattle.std.proofs.Common.{◌≡◌, ◌-◌, ◌++◌}
-use Rattle.cfj_model.specs.Selections.{choices_from, choices}
+use Rattle.cfj_logic.specs.Selections.{choices_from, choices}
 use Rattle.refutation_check.proofs.premises.choices.Given as goal
 
 abbrev pub invariant-loop-feature : goal.invariant-loop-feature

@@ -1,5 +1,5 @@
 use Rattle.std.proofs.Common.{◌≡◌, take}
-use Rattle.cfj_model.specs.Logs.{fixed}
+use Rattle.cfj_logic.specs.Logs.{fixed}
 use Rattle.refutation_check.proofs.premises.fixed.Given as goal
 
 abbrev pub invariant-loop-var : goal.invariant-loop-var

@@ -1,6 +1,6 @@
 use Rattle.std.proofs.Common.{◌-◌, ◌++◌, ◌∙◌, ap, arith}
-use Rattle.cfj_model.specs.Selections.{has_bit}
-use Rattle.cfj_model.specs.Logs.{literals_from}
+use Rattle.cfj_logic.specs.Selections.{has_bit}
+use Rattle.cfj_logic.specs.Logs.{literals_from}
 use Rattle.refutation_check.proofs.ClauseLiterals.{literals_first, literals_more, literals_end}
 use Rattle.refutation_check.proofs.premises.literals.Goals as goal
 

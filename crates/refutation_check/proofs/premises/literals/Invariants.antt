@@ -1,5 +1,5 @@
 use Rattle.std.proofs.Common.{◌≡◌, ◌-◌, ◌++◌}
-use Rattle.cfj_model.specs.Logs.{literals_from, literals}
+use Rattle.cfj_logic.specs.Logs.{literals_from, literals}
 use Rattle.refutation_check.proofs.premises.literals.Given as goal
 
 abbrev pub invariant-loop-feature : goal.invariant-loop-feature

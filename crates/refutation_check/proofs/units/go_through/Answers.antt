@@ -1,6 +1,6 @@
 use Rattle.std.proofs.Common.{◌≡◌, ◌<◌, take, length, arith, refl, ◌∙◌, ap, subst}
 use Rattle.std.proofs.Math.Seq.{take-length}
-use Rattle.cfj_model.specs.UnitClauses.{here, IsFalsified}
+use Rattle.cfj_logic.specs.UnitClauses.{here, IsFalsified}
 use Rattle.refutation_check.specs.Standings.{Passes}
 use Rattle.refutation_check.proofs.Members.{has_none}
 use Rattle.refutation_check.proofs.Passes.{passes_open, read_has, unit_below, unit_reaches, unit_falls}

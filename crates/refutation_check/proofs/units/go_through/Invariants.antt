@@ -1,6 +1,6 @@
 use Rattle.std.proofs.Common.{◌≤◌, take}
 use Rattle.std.specs.Prelude.{sum_by}
-use Rattle.cfj_model.specs.UnitClauses.{Reaches}
+use Rattle.cfj_logic.specs.UnitClauses.{Reaches}
 use Rattle.refutation_check.specs.Standings.{Passes, unvalued}
 use Rattle.refutation_check.proofs.units.go_through.Given as goal
 

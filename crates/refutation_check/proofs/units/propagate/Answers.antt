@@ -1,5 +1,5 @@
 use Rattle.std.proofs.Common.{◌++◌, refl}
-use Rattle.cfj_model.specs.UnitClauses.{here}
+use Rattle.cfj_logic.specs.UnitClauses.{here}
 use Rattle.refutation_check.proofs.Passes.{leads_at, leads_not}
 use Rattle.refutation_check.proofs.UnitSteps.{reaches_then}
 use Rattle.refutation_check.proofs.units.propagate.Goals as goal

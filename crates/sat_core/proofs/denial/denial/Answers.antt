@@ -1,5 +1,5 @@
 use Rattle.std.proofs.Common.{take, true, false, arith}
-use Rattle.cfj_model.proofs.FeatureBits.{apart}
+use Rattle.cfj_logic.proofs.FeatureBits.{apart}
 use Rattle.sat_core.proofs.Denying.{collects_next, collects_past, not_both, with_small}
 use Rattle.sat_core.proofs.denial.denial.Goals.{then-prefix-feature, else-prefix-feature}
 use Rattle.sat_core.proofs.denial.denial.Goals as goal

@@ -1,6 +1,6 @@
 use Rattle.std.proofs.Common.{sym, subst}
 use Rattle.std.specs.Prelude.{All}
-use Rattle.cfj_model.specs.Logs.{AreBelow}
+use Rattle.cfj_logic.specs.Logs.{AreBelow}
 use Rattle.refutation_check.proofs.Accepting.{accepted_below}
 use Rattle.sat_core.proofs.search.conflict.Goals as goal
 

@@ -1,7 +1,7 @@
 use Rattle.std.proofs.Common.{◌≡◌, ◌++◌, ◌∷◌, [], sym, ◌∙◌, ap}
 use Rattle.std.specs.List.{list_any}
-use Rattle.cfj_model.specs.Sides.{Sides, is_within}
-use Rattle.cfj_model.specs.UnitClauses.{Has}
+use Rattle.cfj_logic.specs.Sides.{Sides, is_within}
+use Rattle.cfj_words.specs.Lists.{Has}
 use Rattle.sat_core.specs.Denials.{IsDenied}
 use Rattle.sat_core.specs.States.{IsLearned}
 use Rattle.sat_core.proofs.Searching.{denial_entry, learned_push, known_denied, pushed_denied, pushed_kept, on_ok}

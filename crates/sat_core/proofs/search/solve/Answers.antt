@@ -1,7 +1,7 @@
 use Rattle.std.proofs.Common.{◌≡◌, ◌+◌, [], ◌∷◌, length, arith, sym, ◌∙◌, ap, subst, length-append, vec_len}
 use Rattle.std.proofs.lemmas.Bool.{eqb-true}
 use Rattle.std.proofs.lemmas.List.{nil_from_length}
-use Rattle.cfj_model.specs.Sides.{empty_clause}
+use Rattle.cfj_logic.specs.Sides.{empty_clause}
 use Rattle.sat_core.specs.Denials.{IsDenied}
 use Rattle.sat_core.specs.States.{IsConflict}
 use Rattle.sat_core.proofs.LeastSelection.{least_found}

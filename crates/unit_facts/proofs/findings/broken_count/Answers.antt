@@ -2,7 +2,7 @@ use Rattle.std.proofs.Common.{rules, tests, ◌∙◌}
 use Rattle.std.proofs.lemmas.Iterator.{YieldsList-from_slice}
 use Rattle.std.proofs.lemmas.Iterator.Consumers.{YieldsList-from_filter, count_from_yields_List}
 use Rattle.std.proofs.lemmas.List.Sums.{length-filter}
-use Rattle.unit_facts.specs.Findings.{is_broken}
+use Rattle.unit_facts.specs.Diagnostics.{is_broken}
 use Rattle.unit_facts.proofs.findings.broken_count.Goals as goal
 
 pub returns : goal.returns

@@ -1,6 +1,6 @@
 use Rattle.std.proofs.Common.{◌≡◌, ◌++◌, ◌<◌, ◌∙◌, ap, sym, true, false, rules, arith, string_bytes, length, get_or}
 use Rattle.std.proofs.lemmas.List.{append_assoc}
-use Rattle.cfj_model.specs.Selections.{is_on}
+use Rattle.cfj_logic.specs.Selections.{is_on}
 use Rattle.unit_facts.specs.Findings.{spaced}
 use Rattle.unit_facts.proofs.Selected.{first_selected, selected_no, separator, separator_yes, spaced_yes}
 use Rattle.unit_facts.proofs.findings.write_names.Goals.{then-has+in_ok-write_word, else-has}

@@ -3,9 +3,9 @@ use Rattle.std.specs.List.{list_all}
 use Rattle.std.proofs.lemmas.Bool.{and_from}
 use Rattle.cfj_model.specs.Judging.{Pair}
 use Rattle.cfj_model.specs.ProductLines.{ProductLine}
-use Rattle.cfj_model.specs.Selections.{Chosen}
-use Rattle.cfj_model.specs.Sides.{Sides}
-use Rattle.unit_facts.specs.Diagnostics.{IsExact, IsRight, IsSpent, AreExact, is_decided_entry, is_decided_verdict}
+use Rattle.cfj_logic.specs.Selections.{Chosen}
+use Rattle.cfj_logic.specs.Sides.{Sides}
+use Rattle.unit_facts.specs.Diagnostics.{IsExact, IsRight, IsSpent, AreExact, is_broken, is_decided_verdict}
 use Rattle.unit_facts.specs.declared.entry.Entry.{Entry}
 use Rattle.unit_facts.specs.declared.entry.Entry.TheVariants as entry
 use Rattle.unit_facts.specs.declared.entry.Verdict.{Verdict}
@@ -19,11 +19,11 @@ module _ (line : ProductLine) (budget : ℕ) (few : 3 ^ length line.model.featur
       let short = few_clauses (length line.model.features) log spent.over spent.simple spent.telling spent.fresh in
       omega (arith, short, few, spent.long)
 
-  entry_decided : (e : Entry) → IsExact line budget e → is_decided_entry e ≡ true
+  entry_decided : (e : Entry) → IsExact line budget e → is_broken e ≡ true
   entry_decided (entry.Broken site rule selection) exact = refl
   entry_decided (entry.Undecided site rule log) exact = absurd (never_spent _ log exact)
 
-  entries_decided : (ps : List Pair) (es : List Entry) → AreExact line budget ps es → list_all is_decided_entry es ≡ true
+  entries_decided : (ps : List Pair) (es : List Entry) → AreExact line budget ps es → list_all is_broken es ≡ true
   entries_decided _ _ AreExact.all_told = refl
   entries_decided _ _ (AreExact.unbroken p ps es none rest) = entries_decided ps es rest
   entries_decided _ _ (AreExact.told e ps es exact rest) = and_from _ _ (entry_decided e exact) (entries_decided ps es rest)

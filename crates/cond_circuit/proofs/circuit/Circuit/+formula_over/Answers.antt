@@ -1,6 +1,6 @@
 use Rattle.std.proofs.Common.{◌≡◌, ℕ, not, ◌&&◌, ◌||◌, cond, ap, subst, ◌∙◌}
-use Rattle.cfj_model.specs.Formulas.{truth}
-use Rattle.cfj_model.specs.declared.formula.Formula.{Formula}
+use Rattle.cfj_logic.specs.Formulas.{truth}
+use Rattle.cfj_logic.specs.declared.formula.Formula.{Formula}
 use Rattle.cond_circuit.specs.Gates.{Gates, Is}
 use Rattle.cond_circuit.proofs.FormulaGates.{operands_worth, truth_and, truth_or, truth_implies, truth_iff}
 use Rattle.cond_circuit.proofs.circuit.Circuit.+formula_over.Goals as goal

@@ -1,4 +1,4 @@
-use Rattle.cfj_model.specs.Selections.{is_on}
+use Rattle.cfj_logic.specs.Selections.{is_on}
 use Rattle.cond_circuit.specs.declared.folding.Folded.TheVariants.{New}
 use Rattle.cond_circuit.specs.declared.part.Part.TheVariants.{Feat}
 use Rattle.cond_circuit.proofs.FoldLemmas.{feat_for, placed_worth}

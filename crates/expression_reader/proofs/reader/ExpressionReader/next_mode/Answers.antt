@@ -1,5 +1,5 @@
 use Rattle.std.proofs.Common.{◌≡◌, true, subst}
-use Rattle.cfj_model.specs.Tokens.{Token}
+use Rattle.cfj_words.specs.Tokens.{Token}
 use Rattle.fj_symbols.specs.Views.{symbol_seen}
 use Rattle.expression_reader.specs.declared.mode.Mode.{Mode}
 use Rattle.expression_reader.specs.Views.{settles_short}

@@ -1,7 +1,7 @@
 use Rattle.std.proofs.Common.{◌≡◌, ◌+◌, ◌-◌, ◌<◌, [], length, refl, ap, ◌∙◌, Some, Err, rules, arith, length-append}
 use Rattle.std.specs.Str.{chars, IsUtf8}
 use Rattle.std.proofs.lemmas.Str.{chars-nil}
-use Rattle.cfj_model.specs.Lexemes.{AtEnd, NoToken, Found, Reached}
+use Rattle.cfj_words.specs.Lexemes.{AtEnd, NoToken, Found, Reached}
 use Rattle.fj_lexer.specs.declared.token.LexFault.TheVariants.{BadChar, OpenComment}
 use Rattle.fj_lexer.specs.Ends.{IsEndOf}
 use Rattle.fj_lexer.specs.Pieces.{IsPiece}

@@ -1,7 +1,7 @@
 use Rattle.std.proofs.Common.{List, IsTrue, subst}
 use Rattle.std.specs.Prelude.{◌↔◌}
 use Rattle.cfj_model.specs.Judging.{Pair}
-use Rattle.cfj_model.specs.UnitClauses.{Has}
+use Rattle.cfj_words.specs.Lists.{Has}
 use Rattle.plain_judge.proofs.LookedUp.{looked_up}
 use Rattle.plain_judge.proofs.breaks.Breaks.has.Goals as goal
 

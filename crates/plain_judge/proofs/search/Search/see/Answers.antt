@@ -3,8 +3,8 @@ use Rattle.std.proofs.lemmas.List.{with_items_is}
 use Rattle.std.specs.Prelude.{◌↔◌}
 use Rattle.cfj_model.specs.Judging.{Breaks, Pair}
 use Rattle.cfj_model.specs.ProductLines.{ProductLine}
-use Rattle.cfj_model.specs.Selections.{Chosen}
-use Rattle.cfj_model.specs.UnitClauses.{Has}
+use Rattle.cfj_logic.specs.Selections.{Chosen}
+use Rattle.cfj_words.specs.Lists.{Has}
 use Rattle.plain_judge.specs.Questions.{AreConsidered}
 use Rattle.plain_judge.specs.Searching.{first_answer}
 use Rattle.plain_judge.specs.declared.question.Question.{Question}

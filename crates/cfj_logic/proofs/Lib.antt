@@ -1,0 +1,3 @@
+pub mod FeatureBits
+pub mod FormulaCases
+pub mod SetBits

@@ -1,0 +1,6 @@
+pub mod Formulas
+pub mod Logs
+pub mod Selections
+pub mod Sides
+pub mod UnitClauses
+pub mod Validity

@@ -1,0 +1,4 @@
+pub mod AsciiWords
+pub mod Identifiers
+mod Reserved
+pub mod WordTokens

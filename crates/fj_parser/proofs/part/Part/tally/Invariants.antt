@@ -1,7 +1,0 @@
-use Rattle.std.proofs.Common.{◌≡◌, take}
-use Rattle.fj_parser.specs.Languages.{with_features}
-use Rattle.fj_tally.specs.Views.{tally_seen}
-use Rattle.fj_parser.proofs.part.Part.tally.Given as goal
-
-abbrev pub invariant-each : goal.invariant-each
-invariant-each l = tally_seen l.tally ≡ with_features (take l.item-index l.fn.self.features.now)

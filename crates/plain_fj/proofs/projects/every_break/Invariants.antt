@@ -1,6 +1,0 @@
-use Rattle.std.proofs.Common.{◌≡◌, map, take}
-use Rattle.plain_fj.specs.Breaking.{told}
-use Rattle.plain_fj.proofs.projects.every_break.Given as goal
-
-abbrev pub invariant-each : goal.invariant-each
-invariant-each l = l.pairs.items ≡ map told (take l.found-index l.found-items)

@@ -1,0 +1,2 @@
+" Projects of coloured Featherweight Java.
+autocmd BufNewFile,BufRead *.fj setfiletype fj

@@ -1,3 +1,4 @@
+//! Escapes, a byte at a time.
 use crate::content::Content;
 use std::alloc::AllocError;
 

@@ -1,3 +1,4 @@
+//! Why a case can't be run.
 use std::alloc::AllocError;
 
 /// Why a case can't be run.

@@ -1,3 +1,4 @@
+//! The words of a line.
 use crate::content::Content;
 use crate::escapes::{Escape, step};
 use crate::fault::CaseFault;

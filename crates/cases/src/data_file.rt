@@ -1,9 +1,7 @@
 //! A file of cases.
-use crate::answer::Answer;
 use crate::part::read_part;
-use crate::report::print_difference;
 use crate::whole::run_words;
-use case_files::{Case, CaseFault, Section, lines_of, sections_of};
+use case_files::{Answer, Case, CaseFault, Section, lines_of, print_difference, sections_of};
 use std::rt::Files;
 use std::{fs, io};
 

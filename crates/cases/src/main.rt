@@ -5,15 +5,12 @@
 //! and ends with 1.
 #![tactic(auto)]
 
-mod answer;
 mod data_file;
 mod part;
-mod report;
 mod whole;
 
 use data_file::run_file;
 use std::process::ExitCode;
-use std::rt::Runtime;
 use std::{env, io};
 
 /// Runs the cases of each file; whether all passed.

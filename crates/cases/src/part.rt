@@ -1,6 +1,5 @@
 //! Cases that are parts of a run: a text that is read by itself.
-use crate::answer::Answer;
-use case_files::{CaseFault, Content, Section, words_of};
+use case_files::{Answer, CaseFault, Content, Section, words_of};
 use cfj_model::{Member, ParseFault, Project, Site, read_site};
 use cide_io::MemSink;
 use command_words::{Asked, read_words};

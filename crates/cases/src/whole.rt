@@ -1,6 +1,5 @@
 //! Cases that are runs of the program.
-use crate::answer::Answer;
-use case_files::{Case, CaseFault, Content, words_of};
+use case_files::{Answer, Case, CaseFault, Content, words_of};
 use cide_io::{MemRoom, MemSink};
 use cide_tool::run;
 use std::alloc::{AllocError, AllocGlobal, Global};

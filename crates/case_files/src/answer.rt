@@ -1,4 +1,7 @@
-use case_files::{Case, CaseFault, Content};
+//! What a case wants, and what comes of it.
+use crate::content::Content;
+use crate::fault::CaseFault;
+use crate::section::Case;
 use std::alloc::{AllocError, Global};
 
 /// What came of a case, or what it wants.

@@ -1,4 +1,4 @@
-//! What is printed of a case that differs.
+//! What is printed of a case of which something else came than what it wants.
 use crate::answer::Answer;
 use std::io;
 

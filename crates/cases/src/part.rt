@@ -92,23 +92,34 @@ fn path_told(alloc: Global, text: &str) -> Result<Answer, AllocError> {
     Answer::line(alloc, line.as_str())
 }
 
-/// The print of a project.
-fn project_told(alloc: Global, text: &str) -> Result<Answer, AllocError> {
+/// The print of the project that a text stands for.
+fn printed(alloc: Global, text: &[u8]) -> Result<Vec<u8>, ParseFault> {
     if text.len() > MOST_BYTES {
-        return Answer::refusal(alloc, "limit");
+        return Err(ParseFault::NoMemory);
     }
-    match parse_project(alloc, text.as_bytes()) {
-        Ok(project) => {
-            let mut sink = MemSink::new(Vec::new(alloc));
-            let _whole = print_project(&project, &mut sink);
-            let out = sink.into_held();
-            Ok(Answer {
-                status: 0,
-                out,
-                err: Vec::new(alloc),
-            })
-        }
-        Err(fault) => refusal(alloc, fault),
+    let project = parse_project(alloc, text)?;
+    let mut sink = MemSink::new(Vec::new(alloc));
+    let whole = print_project(&project, &mut sink);
+    let held = sink.into_held();
+    match whole {
+        Ok(()) => Ok(held),
+        Err(_) => Err(ParseFault::NoMemory),
+    }
+}
+
+/// The print of a project, which must be its own print.
+fn project_told(alloc: Global, text: &str) -> Result<Answer, AllocError> {
+    let out = match printed(alloc, text.as_bytes()) {
+        Ok(out) => out,
+        Err(fault) => return refusal(alloc, fault),
+    };
+    match printed(alloc, out.as_slice()) {
+        Ok(again) if again.as_slice() == out.as_slice() => Ok(Answer {
+            status: 0,
+            out,
+            err: Vec::new(alloc),
+        }),
+        _ => Answer::refusal(alloc, "the print has another print"),
     }
 }
 

@@ -1,7 +1,22 @@
-use super::told;
+//! A slow reading that tries all that the grammar allows.
+use cfj_model::ParseFault;
 use fj_lexer::{LexFault, Lexer, TokenKind};
+use fj_parser::parse_project;
 use std::alloc::{AllocError, Global};
 use std::test::Fail;
+
+/// The first fault of a text, as its place and its kind; `read` where there is none. A text over the limit of a project's isn't
+/// handed to the parser.
+fn told(alloc: Global, text: &str) -> Result<String, AllocError> {
+    if text.len() > 4_194_304 {
+        return String::from_str(alloc, "too long");
+    }
+    match parse_project(alloc, text.as_bytes()) {
+        Ok(_) => String::from_str(alloc, "read"),
+        Err(ParseFault::At { at, kind }) => format!(in alloc; "{at}: {kind}"),
+        Err(ParseFault::NoMemory) => String::from_str(alloc, "no memory"),
+    }
+}
 
 /// The parts of the grammar; `More..` stands for what may follow an item of a list.
 #[derive(Clone, Copy)]

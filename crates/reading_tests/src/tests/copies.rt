@@ -1,3 +1,4 @@
+//! What is read and copied is the same.
 use super::project_of;
 use cfj_model::{Expr, Member, MemberName, Name, Project, read_site};
 use fj_parser::{Want, parse_class, parse_member};
@@ -34,6 +35,9 @@ fn sites_and_members_are_copied(rt: HostRuntime) -> Result<(), Fail> {
     Ok(())
 }
 
+/// The features that marks may name.
+const MODEL: &str = "features F, G; constraint F -> !G;";
+
 const CLASS: &str =
     "@F class A extends B { @G C f; A(@G C f) { super(f); @G this.f = f; } @F C m(D x) { return ((D) new E(@G x, this.f)).n(x); } }";
 
@@ -69,7 +73,7 @@ fn arguments_of(expr: &Expr) -> usize {
 fn a_class_is_copied_with_all_its_parts(rt: HostRuntime) -> Result<(), Fail> {
     let alloc = rt.alloc();
     let mut agree = false;
-    if let Some(project) = project_of(alloc)? {
+    if let Some(project) = project_of(alloc, MODEL)? {
         if let Some(parts) = parts_of_copy(alloc, &project)? {
             agree = parts == [1, 1, 1, 1];
         }
@@ -82,7 +86,7 @@ fn a_class_is_copied_with_all_its_parts(rt: HostRuntime) -> Result<(), Fail> {
 fn a_feature_model_is_copied(rt: HostRuntime) -> Result<(), Fail> {
     let alloc = rt.alloc();
     let mut agree = false;
-    if let Some(project) = project_of(alloc)? {
+    if let Some(project) = project_of(alloc, MODEL)? {
         let copy = project.model().copy(alloc)?;
         agree = copy.features.slice().len() == 2 && copy.constraints.slice().len() == 1;
     }
@@ -94,7 +98,7 @@ fn a_feature_model_is_copied(rt: HostRuntime) -> Result<(), Fail> {
 fn a_member_is_copied(rt: HostRuntime) -> Result<(), Fail> {
     let alloc = rt.alloc();
     let mut agree = false;
-    if let Some(project) = project_of(alloc)? {
+    if let Some(project) = project_of(alloc, MODEL)? {
         if let Ok(member) = parse_member(
             alloc,
             "@F C m(D x) { return x; }",
@@ -107,5 +111,35 @@ fn a_member_is_copied(rt: HostRuntime) -> Result<(), Fail> {
         }
     }
     assert!(rt; agree);
+    Ok(())
+}
+
+fn name_of(alloc: Global, text: &str) -> Result<Name, Fail> {
+    Ok(Name::of(alloc, text)?.ok_or("no name")?)
+}
+
+/// A member, spelled out.
+fn member_text(alloc: Global, member: &MemberName) -> Result<String, AllocError> {
+    match member {
+        MemberName::Field(class, field, alt) => {
+            format!(in alloc; "field {} of {}, alt {alt}", field.text(), class.text())
+        }
+        MemberName::Method(class, method, alt) => {
+            format!(in alloc; "method {} of {}, alt {alt}", method.text(), class.text())
+        }
+    }
+}
+
+#[test]
+fn copies_members(rt: HostRuntime) -> Result<(), Fail> {
+    let alloc = rt.alloc();
+    let field = MemberName::Field(name_of(alloc, "C")?, name_of(alloc, "f")?, 1);
+    let copied = field.copy(alloc)?;
+    let text = member_text(alloc, &copied)?;
+    assert!(rt; text.as_str() == "field f of C, alt 1");
+    let method = MemberName::Method(name_of(alloc, "D")?, name_of(alloc, "m")?, 0);
+    let copied = method.copy(alloc)?;
+    let text = member_text(alloc, &copied)?;
+    assert!(rt; text.as_str() == "method m of D, alt 0");
     Ok(())
 }

@@ -107,19 +107,31 @@ fn printed(alloc: Global, text: &[u8]) -> Result<Vec<u8>, ParseFault> {
     }
 }
 
-/// The print of a project, which must be its own print.
+/// Whether a text is its own print.
+fn is_own_print(alloc: Global, text: &[u8]) -> bool {
+    match printed(alloc, text) {
+        Ok(print) => print.as_slice() == text,
+        Err(_) => false,
+    }
+}
+
+/// A print, which must be its own print.
+fn print_told(alloc: Global, out: Vec<u8>) -> Result<Answer, AllocError> {
+    if !is_own_print(alloc, out.as_slice()) {
+        return Answer::refusal(alloc, "the print has another print");
+    }
+    Ok(Answer {
+        status: 0,
+        out,
+        err: Vec::new(alloc),
+    })
+}
+
+/// What is told of a text that is read as a project: its print.
 fn project_told(alloc: Global, text: &str) -> Result<Answer, AllocError> {
-    let out = match printed(alloc, text.as_bytes()) {
-        Ok(out) => out,
-        Err(fault) => return refusal(alloc, fault),
-    };
-    match printed(alloc, out.as_slice()) {
-        Ok(again) if again.as_slice() == out.as_slice() => Ok(Answer {
-            status: 0,
-            out,
-            err: Vec::new(alloc),
-        }),
-        _ => Answer::refusal(alloc, "the print has another print"),
+    match printed(alloc, text.as_bytes()) {
+        Ok(out) => print_told(alloc, out),
+        Err(fault) => refusal(alloc, fault),
     }
 }
 

@@ -9,7 +9,6 @@ set -eu
 . "$(dirname "$(readlink -f "${BASH_SOURCE[0]}")")/timing.sh"
 
 classes=300
-program=$top/crates/cide/out/cide
 clean=$'model valid []\nsummary broken 0 undecided 0'
 
 # the names of the selection whose number has these bits, of so many features
@@ -72,6 +71,5 @@ else
     echo "there is no javac here: no comparison"
 fi
 
-"$top/cide" export "$top/examples/shapes.fj" . >/dev/null
 for features in 1 2 3 4; do measure "$features"; done
 exit "$failed"

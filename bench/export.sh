@@ -61,8 +61,6 @@ measure_sizes() {
     check "the whole takes at most what python takes" "${times[1024]}" "${python_times[1024]}"
 }
 
-"$top/cide" export "$top/examples/shapes.fj" . >/dev/null
-program=$top/crates/cide/out/cide
 declare -A times python_times
 measure_sizes 0 .
 half=$(seq -s , -f 'F%g' 0 2 126)

@@ -9,7 +9,6 @@ set -eu
 
 . "$(dirname "$(readlink -f "${BASH_SOURCE[0]}")")/timing.sh"
 
-program=$top/crates/cide/out/cide
 clean=$'model valid []\nsummary broken 0 undecided 0'
 javac_checks=(javac -proc:none -XDshould-stop.ifNoError=FLOW -d "$work")
 
@@ -42,7 +41,6 @@ else
     echo "there is no javac here: no comparison"
 fi
 
-"$top/cide" export "$top/examples/shapes.fj" . >/dev/null
 declare -A times javac_times
 for classes in 250 500 1000; do measure "$classes"; done
 check "the whole takes at most 5 times the quarter" "${times[1000]}" $((5 * times[250]))

@@ -1,8 +1,10 @@
-# What the benches share: the number of runs of each command, which is their first word, the top of the repository, a folder for what
-# they write, and whether a check has failed.
+# What the benches share: the number of runs of each command, which is their first word, the top of the repository, the program that
+# ./cide runs, a folder for what they write, and whether a check has failed.
 
 runs=${1:-9}
 top=$(dirname "$(dirname "$(readlink -f "${BASH_SOURCE[0]}")")")
+. "$top/release/choose.sh"
+choose_program
 work=$(mktemp -d)
 trap 'rm -rf "$work"' EXIT
 failed=0

@@ -14,6 +14,12 @@ _cide_names() {
     compopt -o nospace 2>/dev/null
 }
 
+# files of any name
+_cide_files() {
+    compopt -o filenames 2>/dev/null
+    mapfile -t COMPREPLY < <(compgen -f -- "$1")
+}
+
 _cide() {
     local word=${COMP_WORDS[COMP_CWORD]}
     COMPREPLY=()
@@ -24,9 +30,9 @@ _cide() {
     case ${COMP_WORDS[1]},${COMP_WORDS[COMP_CWORD - 1]},$word in
         check,--budget,*) ;;
         check,*,-*) mapfile -t COMPREPLY < <(compgen -W "--budget" -- "$word") ;;
-        export,*,*) if [ "$COMP_CWORD" = 3 ]; then _cide_names "${COMP_WORDS[2]}" "$word"; fi ;;&
-        check,*,* | export,export,*) mapfile -t COMPREPLY < <(compgen -f -- "$word") ;;
+        check,*,* | export,export,*) _cide_files "$word" ;;
+        export,*,*) if [ "$COMP_CWORD" = 3 ]; then _cide_names "${COMP_WORDS[2]}" "$word"; fi ;;
     esac
 }
 
-complete -o filenames -F _cide cide
+complete -F _cide cide

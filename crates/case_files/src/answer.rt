@@ -1,4 +1,5 @@
 //! What a case wants, and what comes of it.
+
 use crate::content::Content;
 use crate::fault::CaseFault;
 use crate::section::Case;

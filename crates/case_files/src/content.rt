@@ -1,4 +1,5 @@
 //! What lines of content stand for.
+
 use crate::escapes::{Escape, step};
 use crate::fault::CaseFault;
 use std::alloc::{AllocError, Global};

@@ -1,4 +1,5 @@
 //! What is printed of a case of which something else came than what it wants.
+
 use crate::answer::Answer;
 use std::io;
 

@@ -1,4 +1,5 @@
 //! Escapes, a byte at a time.
+
 use crate::content::Content;
 use std::alloc::AllocError;
 

@@ -1,4 +1,5 @@
 //! Why a case can't be run.
+
 use std::alloc::AllocError;
 
 /// Why a case can't be run.

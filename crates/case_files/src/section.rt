@@ -1,4 +1,5 @@
 //! The sections of a case file, and its cases.
+
 use std::alloc::{AllocError, Global};
 
 /// A line that isn't content, with the lines of content below it.

@@ -1,4 +1,5 @@
 //! The words of a line.
+
 use crate::content::Content;
 use crate::escapes::{Escape, step};
 use crate::fault::CaseFault;

@@ -1,4 +1,5 @@
 //! A file of cases.
+
 use crate::part::read_part;
 use crate::whole::run_words;
 use case_files::{Answer, Case, CaseFault, Section, lines_of, print_difference, sections_of};

@@ -1,4 +1,5 @@
 //! Cases that are parts of a run: a text that is read by itself.
+
 use case_files::{Answer, CaseFault, Content, Section, words_of};
 use cfj_model::{Member, ParseFault, Project, Site, read_site};
 use cide_io::MemSink;

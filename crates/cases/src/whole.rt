@@ -1,4 +1,5 @@
 //! Cases that are runs of the program.
+
 use case_files::{Answer, Case, CaseFault, Content, words_of};
 use cide_io::{MemRoom, MemSink};
 use cide_tool::run;

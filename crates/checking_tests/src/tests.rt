@@ -1,4 +1,5 @@
 //! Projects that differ from a sound one by a word, judged twice.
+
 mod look_ups;
 mod slow;
 mod slow_bodies;

@@ -5,6 +5,9 @@
 //! `plain_judge`, where the pairs of a project are listed node by node, so that those of a variant are among those of the line;
 //! `feature_views`, whose variants keep what a project keeps; and `plain_fj`, whose law is that a project is well typed exactly
 //! where no rule breaks in it. Typing and projection are those of `cfj_model`.
+//!
+//! `proofs/VariantPairs.antt` shows that each pair of a site and a rule of a variant is one of its product line, part by part along
+//! projection; so where a line has no entry, nothing breaks in any valid variant, and `plain_fj`'s law makes that well typed.
 #![tactic(auto)]
 
 ghost use Rattle.std.specs.Prelude.{ℕ, []};

@@ -58,6 +58,7 @@ impl ExpressionReader {
         let mode = mem::replace(&mut self.mode, Mode::Begin);
         match self.next_mode(alloc, features, mode, symbol)? {
             Some(next) => {
+                // The old mode is dropped by a call, which the check counts as one step; an assignment drops it part by part.
                 mem::drop(mem::replace(&mut self.mode, next));
                 Ok(true)
             }
@@ -119,6 +120,7 @@ impl ExpressionReader {
         match mode {
             Mode::Done(x) => Some(x),
             other => {
+                // By a call, which the check counts as one step.
                 mem::drop(other);
                 None
             }

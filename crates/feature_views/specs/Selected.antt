@@ -1,3 +1,4 @@
+-- No public contract cites this: it serves the proofs.
 -- The parts of a variant as the code makes them: inside a present class a node is tested for its own colours alone.
 use Rattle.std.specs.Prelude.{ℕ, if◌then◌else◌, List, [], ◌∷◌, map, filter, flat_map}
 use Rattle.cfj_model.specs.declared.class.Param.{Param}

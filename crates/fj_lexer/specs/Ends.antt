@@ -1,3 +1,4 @@
+-- No public contract cites this: it serves the proofs.
 -- A text as the end of another one.
 use Rattle.std.specs.Prelude.{◌≡◌, ℕ, ◌-◌, ◌≤◌, List, length, drop}
 

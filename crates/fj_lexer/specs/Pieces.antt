@@ -1,3 +1,4 @@
+-- No public contract cites this: it serves the proofs.
 -- What the parts of a token are while it is read.
 use Rattle.std.specs.Prelude.{◌≡◌, ℕ, Bool, false, ◌==◌, nat_lt, List, [], ◌∷◌, ◌++◌, encode_utf8_all}
 use Rattle.std.specs.Str.{chars, IsUtf8}

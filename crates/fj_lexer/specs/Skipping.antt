@@ -1,3 +1,4 @@
+-- No public contract cites this: it serves the proofs.
 -- What the steps between tokens give, in terms of where reading goes on.
 use Rattle.std.specs.Prelude.{◌≡◌, ℕ, ◌≤◌, Bool, true, false, List, length}
 use Rattle.std.specs.Str.{chars, IsUtf8}

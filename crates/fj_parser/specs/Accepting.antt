@@ -1,3 +1,4 @@
+-- No public contract cites this: it serves the proofs.
 -- What becomes of one token.
 use Rattle.std.specs.Prelude.{◌≡◌, ℕ, List, [], ◌∷◌, ◌++◌, length, drop, slice_get, Option, Some, None}
 use Rattle.cfj_model.specs.declared.fault.FaultKind.{FaultKind}

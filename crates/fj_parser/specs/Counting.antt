@@ -1,3 +1,4 @@
+-- No public contract cites this: it serves the proofs.
 -- What is in hand against what was counted.
 use Rattle.std.specs.Prelude.{◌≡◌, ℕ, ◌+◌, ◌≤◌, length}
 use Rattle.cfj_model.specs.ProductLines.{most_features, most_in_ctor, most_nodes}

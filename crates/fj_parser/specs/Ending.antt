@@ -1,3 +1,4 @@
+-- No public contract cites this: it serves the proofs.
 -- How the reading of a text ends.
 use Rattle.std.specs.Prelude.{◌≡◌, ℕ, List, Some}
 use Rattle.std.specs.Str.{chars}

@@ -1,3 +1,4 @@
+-- No public contract cites this: it serves the proofs.
 -- How the machine goes on for a goal.
 use Rattle.std.specs.Prelude.{◌≡◌, ℕ, Bool, true, false, List, Some, None}
 use Rattle.cfj_words.specs.Tokens.{Token, Semicolon, End}

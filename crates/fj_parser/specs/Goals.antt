@@ -1,3 +1,4 @@
+-- No public contract cites this: it serves the proofs.
 -- The machine where it reads a part of a project by itself: where it starts, and which tokens it takes there and at the part's end.
 use Rattle.std.specs.Prelude.{ℕ, Bool, true, false, ◌&&◌, if◌then◌else◌, List, [], ◌∷◌, Option, Some, None}
 use Rattle.std.specs.Str.{bytes_eq}

@@ -1,3 +1,4 @@
+-- No public contract cites this: it serves the proofs.
 -- What is known of a reader of a language.
 use Rattle.std.specs.Prelude.{◌≡◌, ℕ, suc, ◌+◌, ◌≤◌, true, false, List, [], ◌∷◌, ◌++◌, length, Some, None}
 use Rattle.cfj_model.specs.Faults.{Language}

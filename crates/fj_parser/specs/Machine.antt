@@ -1,3 +1,4 @@
+-- No public contract cites this: it serves the proofs.
 -- The machine that reads one token at a time: how it goes on, and the role that it gives each token.
 use Rattle.std.specs.Prelude.{ℕ, Bool, true, false, if◌then◌else◌, List, [], ◌∷◌, ◌++◌, length, codes, bit_or, Option, Some, None}
 use Rattle.std.specs.Str.{bytes_eq}

@@ -1,3 +1,4 @@
+-- No public contract cites this: it serves the proofs.
 -- The machine's own type, as the state that it stands for.
 use Rattle.std.specs.Prelude.{◌≡◌, ◌^◌, ◌<◌, ◌≤◌, Bool, true, false, length, Some, None}
 use Rattle.cfj_words.specs.Tokens.{Token}

@@ -1,3 +1,4 @@
+-- No public contract cites this: it serves the proofs.
 -- A reader takes one token at a time: how it goes on, and the roles that it gives.
 use Rattle.std.specs.Prelude.{◌≡◌, suc, ◌+◌, length, ◌&&◌, if◌then◌else◌, Bool, List, [], ◌∷◌, ◌++◌, Option, Some, None}
 use Rattle.cfj_model.specs.declared.fault.FaultKind.{FaultKind}

@@ -1,3 +1,4 @@
+-- No public contract cites this: it serves the proofs.
 -- How the parser stands towards the text that it reads.
 use Rattle.std.specs.Prelude.{◌≡◌, ℕ, ◌+◌, List, length, take, slice_get, Some}
 use Rattle.std.specs.Str.{chars}

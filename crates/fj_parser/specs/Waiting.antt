@@ -1,3 +1,4 @@
+-- No public contract cites this: it serves the proofs.
 -- What the tokens that wait stand for.
 use Rattle.std.specs.Prelude.{ℕ, Bool, true, false, List, [], ◌∷◌}
 use Rattle.cfj_model.specs.Roles.{Role, opens, other_token, var_name, Tally, AreWithin}

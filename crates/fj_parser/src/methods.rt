@@ -10,7 +10,7 @@ ghost use Rattle.fj_symbols.specs.Views.{symbol_seen, is_name_token, is_read};
 use crate::machine::{Machine, NO_NAME};
 use crate::mode::{Mode, Node, Owner};
 use crate::names::both_names;
-use cfj_model::{Colors, Expr, Items, Method};
+use cfj_model::{Colors, Expr, Items, Method, Name};
 use expression_reader::ExpressionReader;
 use fj_symbols::Symbol;
 use std::alloc::{AllocError, Global};
@@ -128,23 +128,32 @@ impl<'a> Machine<'a> {
         requires { expression.is_done (reader_seen self.old.expression) ≡ true }
         ensures { OnOk result (machine_seen self.new ≡ spec.after_expression (machine_seen self.old) (reader_seen self.old.expression) (expression.expression (reader_seen self.old.expression))) }
     {
+        // The names first: no expression is in hand then where there is no memory for one.
+        let (result_type, name) = both_names(alloc, self.result_type, self.method)?;
         let expression = mem::replace(&mut self.expression, ExpressionReader::new(alloc));
-        if let Some(body) = expression.into_expr() {
-            self.push_method(alloc, body)?;
+        match expression.into_expr() {
+            Some(body) => self.push_method(alloc, result_type, name, body),
+            None => Ok(()),
         }
-        Ok(())
     }
 
-    fn push_method(&mut self, alloc: Global, body: Expr) -> Result<(), AllocError>
-        requires { reader_seen self.old.expression ≡ expression.start }
+    fn push_method(
+        &mut self,
+        alloc: Global,
+        result_type: Name,
+        name: Name,
+        body: Expr,
+    ) -> Result<(), AllocError>
+        requires expression { reader_seen self.old.expression ≡ expression.start }
+        requires result_type { result_type ≡ self.old.result_type.now }
+        requires name { name ≡ self.old.method.now }
         ensures { OnOk result (machine_seen self.new ≡ spec.with_method (machine_seen self.old) body) }
     {
-        let (result, name) = both_names(alloc, self.result_type, self.method)?;
         let params = mem::replace(&mut self.params, Vec::new(alloc));
         self.methods.push(Method {
             alt: 0,
             colors: self.method_colors,
-            result,
+            result: result_type,
             name,
             params: Items::of(params),
             body,

@@ -93,7 +93,7 @@ impl<'a> Part<'a> {
         }
     }
 
-    /// The machine before the first token, in memory of its own.
+    /// The machine before the first token, in a box, so that it drops in one step on each way out of what owns it.
     pub fn boxed(self, alloc: Global) -> Result<Box<Machine<'a>>, AllocError>
         ensures { IfOk result (λ machine. machine_seen machine.value ≡ start_for self.entry.goal self.entry.features.now self.entry.class.now) }
     {

@@ -147,7 +147,7 @@ fn read_on<'a>(
     ensures fault { (at : ℕ) (kind : _) → result ≡ Err (ParseFault.At at kind) → IsStopped (met_of part.entry) (reader_of part.entry) text.entry.now at kind }
 {
     let mut lexer = Lexer::new(text);
-    // In a box, which is dropped in one step on each way out; in place each of its names would be one.
+    // In a box, so that it drops in one step on each way out.
     let mut tally = Box::new(alloc, Tally::new(alloc))?;
     part.count_features(&mut tally)?;
     read_tokens(alloc, part, &mut lexer, machine, &mut tally)

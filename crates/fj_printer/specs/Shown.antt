@@ -1,3 +1,4 @@
+-- No public contract cites this: it serves the proofs.
 -- What is printed of a project's nodes: all of them with their marks, or those that are present under a selection, without marks.
 -- Where all that stands round a node is present, the node is present exactly where its own colours are all selected.
 use Rattle.std.specs.Prelude.{ℕ, Bool, true, List, [], ◌++◌, filter}

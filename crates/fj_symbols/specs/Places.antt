@@ -1,3 +1,4 @@
+-- No public contract cites this: it serves the proofs.
 -- Where names stand in a list, as a look-up knows it.
 use Rattle.std.specs.Prelude.{◌≡◌, ℕ, List, position}
 use Rattle.std.specs.Borrow.{Bor}

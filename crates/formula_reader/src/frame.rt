@@ -35,7 +35,7 @@ pub const OR_LEVEL: u8 = 3;
 /// The level of an `&`.
 pub const AND_LEVEL: u8 = 4;
 
-/// Two values in boxes of their own.
+/// Two values in boxes of their own; over any type, so that what is left of them drops in one step on each way out.
 fn both<T: Drop>(alloc: Global, left: T, right: T) -> Result<(Boxed<T>, Boxed<T>), AllocError>
     ensures left { IfOk result (λ boxes. boxes.0 ≡ left) }
     ensures right { IfOk result (λ boxes. boxes.1 ≡ right) }

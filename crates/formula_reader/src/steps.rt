@@ -1,10 +1,13 @@
 //! What each token does.
 
-ghost use Rattle.std.specs.Prelude.{◌≡◌, ◌≤◌, IfOk, length};
+ghost use Rattle.std.specs.Prelude.{◌≡◌, ◌≤◌, ◌∷◌, None, IfOk, length};
+ghost use Rattle.std.specs.Bool.{OnTrue, OnFalse};
 ghost use Rattle.fj_symbols.specs.Views.{symbol_seen};
 ghost use Rattle.cfj_model.specs.FormulaGrammar as grammar;
 ghost use Rattle.cfj_words.specs.Tokens.{CloseParen, Semicolon};
+ghost use Rattle.cfj_logic.specs.declared.formula.Formula.{Formula};
 ghost use Rattle.formula_reader.specs.Machine as spec;
+ghost use Rattle.formula_reader.specs.declared.frame.Frame.TheVariants as frame;
 ghost use Rattle.formula_reader.specs.Views.{reached};
 
 use crate::frame::{AND_LEVEL, Frame, IFF_LEVEL, IMPLIES_LEVEL, OR_LEVEL};
@@ -104,6 +107,7 @@ fn after(
         Symbol::CloseParen => close(alloc, frames, operand),
         Symbol::Semicolon => end(alloc, frames, operand),
         _ => {
+            // By a call, which the check counts as one step; left to the end of the arm, it drops part by part.
             mem::drop(operand);
             Ok(None)
         }
@@ -119,12 +123,25 @@ fn close(
     ensures { IfOk result (λ mode. reached frames.new mode ≡ spec.after frames.old operand CloseParen) }
 {
     let whole = reduce(alloc, frames, operand, IFF_LEVEL)?;
-    match frames.pop() {
-        Some(Frame::InBracket) => Ok(Some(Mode::After(whole))),
-        other => {
-            mem::drop(other);
-            Ok(None)
+    if pop_bracket(frames) {
+        return Ok(Some(Mode::After(whole)));
+    }
+    // By a call, which the check counts as one step.
+    mem::drop(whole);
+    Ok(None)
+}
+
+/// Takes the bracket on top, where one is.
+fn pop_bracket(frames: &mut Stack<Frame>) -> bool
+    ensures open { OnTrue result (frames.old ≡ frame.InBracket ∷ frames.new) }
+    ensures other { OnFalse result ((y : Formula) → spec.closed frames.old y ≡ None) }
+{
+    match frames.items().last() {
+        Some(Frame::InBracket) => {
+            mem::drop(frames.pop());
+            true
         }
+        _ => false,
     }
 }
 
@@ -140,6 +157,7 @@ fn end(
     match frames.pop() {
         None => Ok(Some(Mode::Done(whole))),
         Some(frame) => {
+            // By a call, which the check counts as one step.
             mem::drop(frame);
             Ok(None)
         }

@@ -1,3 +1,4 @@
+-- No public contract cites this: it serves the proofs.
 -- What maps from class names know of a class table.
 use Rattle.std.specs.Prelude.{◌≡◌, ℕ, List, [], ◌∷◌, map, take, Some, None}
 use Rattle.std.specs.Borrow.{Bor}

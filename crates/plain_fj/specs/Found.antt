@@ -1,3 +1,4 @@
+-- No public contract cites this: it serves the proofs.
 -- What is found of expressions is what is judged of them.
 use Rattle.std.specs.Prelude.{◌≡◌, ℕ, Bool, not, List, [], ◌∷◌, flat_map, map, Option, option_map, Vec}
 use Rattle.std.specs.Borrow.{Bor}

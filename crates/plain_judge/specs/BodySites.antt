@@ -1,3 +1,4 @@
+-- No public contract cites this: it serves the proofs.
 -- The sites of a body's nodes.
 use Rattle.std.specs.Prelude.{ℕ}
 use Rattle.cfj_model.specs.declared.site.Site.{Site}

@@ -1,3 +1,4 @@
+-- No public contract cites this: it serves the proofs.
 -- What is said of a product line once the selections are tried.
 use Rattle.std.specs.Prelude.{◌≡◌, ℕ, ◌⊎◌, Bool, true, List, [], ◌∷◌, ◌++◌, if◌then◌else◌, Option, Some, None}
 use Rattle.cfj_model.specs.Judging.{Pair}

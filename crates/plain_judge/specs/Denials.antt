@@ -1,3 +1,4 @@
+-- No public contract cites this: it serves the proofs.
 -- The clauses that deny the first selections in order.
 use Rattle.std.specs.Prelude.{ℕ, zero, suc, ◌-◌, ◌^◌, List, [], ◌∷◌, ◌++◌, bit_xor}
 use Rattle.cfj_logic.specs.Selections.{Chosen}

@@ -1,3 +1,4 @@
+-- No public contract cites this: it serves the proofs.
 -- The selections of so many features by their places in order.
 use Rattle.std.specs.Prelude.{ℕ, zero, suc, ◌+◌, ◌*◌}
 use Rattle.std.specs.Int.{bit_at}

@@ -1,3 +1,4 @@
+-- No public contract cites this: it serves the proofs.
 -- The parts of pairs of a site and a rule, by which they are looked up.
 use Rattle.std.specs.Prelude.{◌↔◌, List, map}
 use Rattle.cfj_model.specs.Judging.{Pair}

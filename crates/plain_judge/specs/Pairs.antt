@@ -1,3 +1,4 @@
+-- No public contract cites this: it serves the proofs.
 -- The pairs of a site and a rule of a project, node by node. Which there are doesn't depend on what breaks.
 use Rattle.std.specs.Prelude.{ℕ, List, [], ◌∷◌, ◌++◌, flat_map, map}
 use Rattle.cfj_model.specs.Judging.{Pair, insert_ranked, rank}

@@ -1,3 +1,4 @@
+-- No public contract cites this: it serves the proofs.
 -- Questions about pairs, and the selections that answer them.
 use Rattle.std.specs.Prelude.{◌≡◌, List, [], ◌∷◌, Option, Some, None, is_some, Bool}
 use Rattle.std.specs.List.{list_all}

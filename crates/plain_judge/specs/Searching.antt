@@ -1,3 +1,4 @@
+-- No public contract cites this: it serves the proofs.
 -- What trying the first selections in order tells of a product line.
 use Rattle.std.specs.Prelude.{◌≡◌, ◌↔◌, ℕ, ◌<◌, ◌&&◌, Bool, List, [], ◌∷◌, length, map, Option, Some, None, is_some}
 use Rattle.cfj_model.specs.Judging.{Pair, pairs_of}

@@ -1,3 +1,4 @@
+-- No public contract cites this: it serves the proofs.
 -- The parts of sites, by which they are compared.
 use Rattle.std.specs.Prelude.{ℕ, List, []}
 use Rattle.cfj_model.specs.declared.site.Site.{Site}

@@ -3,6 +3,14 @@
 //! Rests on `cfj_model`, whose `specs/Print.antt` says what is printed and whose `specs/Faults.antt` says what a text of the
 //! grammar is and what it stands for. The law needs no code: each of these functions has a contract that states it, and a body
 //! that only asks what a project's type keeps.
+//!
+//! # How it is proved
+//!
+//! Each formula, expression, class and product line gets a tree with the fewest brackets (`FormulaTrees`, `ExprTrees`,
+//! `ClassTrees`), and three things are shown of it. Its value is what it was made from, where that is numbered. Its tokens are
+//! those of the printed text: `Lexing.antt` has one relation for a printed piece and its tokens, which says at each end whether a
+//! word could go on there, so that pieces are put together by `both` in the order of the print's definition. And its roles are
+//! within the limits (`FormulaRoles`, `ExprRoles`, `ClassRoles`), since what a project keeps counts what the roles count.
 #![tactic(auto)]
 
 ghost use Rattle.std.specs.Prelude.{IfSome, IsTrue, slice_get};

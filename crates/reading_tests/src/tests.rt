@@ -1,4 +1,5 @@
 //! What the tests share.
+
 mod copies;
 mod edge;
 mod printing;

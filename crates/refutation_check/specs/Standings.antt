@@ -1,3 +1,4 @@
+-- No public contract cites this: it serves the proofs.
 -- What a clause comes to, literal by literal.
 use Rattle.std.specs.Prelude.{◌≡◌, ℕ, ◌<◌, Bool, true, false, not, ◌==◌, ◌&&◌, ◌⊎◌, if◌then◌else◌, List, [], ◌∷◌, sum_by, Option, Some, None}
 use Rattle.cfj_logic.specs.declared.clauses.Literal.{Literal}

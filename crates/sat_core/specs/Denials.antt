@@ -1,3 +1,4 @@
+-- No public contract cites this: it serves the proofs.
 -- Clauses that deny the values of the first features.
 use Rattle.std.specs.Prelude.{◌≡◌, ℕ, Bool, false, not, List, Option, Some, None, slice_get}
 use Rattle.cfj_logic.specs.declared.clauses.Literal.{Literal}

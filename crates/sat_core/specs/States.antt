@@ -1,3 +1,4 @@
+-- No public contract cites this: it serves the proofs.
 -- What a search keeps from step to step.
 use Rattle.std.specs.Prelude.{◌≡◌, ℕ, ◌≤◌, Bool, true, false, List, [], ◌∷◌, ◌++◌, length, map}
 use Rattle.std.specs.List.{list_any}

@@ -1,3 +1,4 @@
+-- No public contract cites this: it serves the proofs.
 -- What the tests know of the clauses that they ask about.
 use Rattle.std.specs.Prelude.{◌≡◌, ℕ, ◌≤◌}
 use Rattle.cfj_logic.specs.declared.clauses.Clauses.{Clauses}

@@ -1,3 +1,5 @@
+//! A slow walk over the pairs of a project.
+
 use super::look_ups::{chain, fields, is_known, is_subtype, nearest_method};
 use super::slow_bodies::Body;
 use cfj_model::{Class, Field, Method, Project};

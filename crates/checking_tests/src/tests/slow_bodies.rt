@@ -1,3 +1,5 @@
+//! A slow walk over the nodes of a body.
+
 use super::look_ups::{chain, fields, is_known, is_subtype, nearest_field, nearest_method};
 use cfj_model::{Arg, Class, Expr, Method, Name, Param, Project};
 use std::alloc::{AllocError, Global};

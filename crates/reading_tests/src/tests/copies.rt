@@ -1,4 +1,5 @@
 //! What is read and copied is the same.
+
 use super::project_of;
 use cfj_model::{Expr, Member, MemberName, Name, Project, read_site};
 use fj_parser::{Want, parse_class, parse_member};

@@ -1,4 +1,5 @@
 //! The real files and streams.
+
 use cide_io::{HostRoom, Room, StdErrSink, StdOutSink, put_all, read_all};
 use std::test::Fail;
 use std::{env, fs};

@@ -1,4 +1,5 @@
 //! Prints whose sink fails, and variants that are printed from their project.
+
 ghost use Rattle.std.specs.Prelude.{◌≡◌, length};
 
 use cfj_model::{Project, Selection};

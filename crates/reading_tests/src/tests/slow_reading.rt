@@ -1,4 +1,5 @@
 //! A slow reading that tries all that the grammar allows.
+
 use cfj_model::ParseFault;
 use fj_lexer::{LexFault, Lexer, TokenKind};
 use fj_parser::parse_project;

@@ -17,8 +17,8 @@ refuse() {
 is_known() {
     local found
     [ -e "$1" ] && [ -x "$2" ] || return 1
-    found=$(find "$2" "$3" "$top/crates.txt" "$top/HANDLES" "$top"/crates/*/src "$top"/crates/*/specs "$top"/crates/*/proofs \
-        -newercm "$1" -print -quit 2>&1) && [ -z "$found" ]
+    found=$(find "$2" "$3" "$top/crates.txt" "$top/HANDLES" "$top/crates" \( -name out -o -name must-fail -o -name data \) -prune \
+        -o -newercm "$1" -print -quit 2>&1) && [ -z "$found" ]
 }
 
 # Notes that this was found at a time, where it can be noted.

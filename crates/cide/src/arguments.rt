@@ -1,3 +1,5 @@
+//! The words that the program was given.
+
 use std::alloc::AllocGlobal;
 use std::env::{self, Env};
 use std::io::ErrorKind;

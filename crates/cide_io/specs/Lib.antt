@@ -1,4 +1,5 @@
 pub mod Faults
 pub mod Known
 pub mod Rooms
+pub mod Changes
 pub mod Memory

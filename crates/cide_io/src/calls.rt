@@ -1,3 +1,5 @@
+//! The numbered calls of an object in memory, some of which fail.
+
 ghost use Rattle.std.specs.Prelude.{◌≡◌, IfOk};
 ghost use Rattle.cide_io.specs.Faults.{raised};
 ghost use Rattle.cide_io.specs.Memory.{is_listed};

@@ -1,3 +1,5 @@
+//! The faults of sources, sinks and rooms.
+
 use std::fmt;
 use thiserror::Error;
 

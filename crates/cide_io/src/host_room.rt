@@ -1,3 +1,5 @@
+//! The room of the system's files.
+
 ghost use Rattle.std.specs.Prelude.{◌≡◌, None};
 
 use crate::faults::OpenFault;

@@ -1,3 +1,5 @@
+//! A room in memory.
+
 ghost use Rattle.std.specs.Prelude.{◌≡◌, ◌↔◌, ℕ, ◌+◌, ◌-◌, ◌<◌, ◌≤◌, List, [], ◌∷◌, ◌++◌, is_ok, is_none, if◌then◌else◌, option_map, IfOk, OnOk, OnErr, IsNone, Some, None, Err};
 ghost use Rattle.cide_io.specs.Faults.{raised};
 ghost use Rattle.cide_io.specs.Rooms.{IsPassedOn};

@@ -1,3 +1,5 @@
+//! A sink in memory.
+
 ghost use Rattle.std.specs.Prelude.{◌≡◌, ◌<◌, ◌≤◌, length, is_err, if◌then◌else◌, IfOk, IsTrue, IsErr, Some, None, []};
 ghost use Rattle.std.specs.String.{string_bytes};
 ghost use Rattle.cide_io.specs.Faults.{HasCause, raised};

@@ -1,3 +1,5 @@
+//! A source in memory.
+
 ghost use Rattle.std.specs.Prelude.{◌≡◌, ◌<◌, ◌≤◌, length, min, is_err, if◌then◌else◌, IfOk, Some};
 ghost use Rattle.cide_io.specs.Faults.{HasCause, raised};
 ghost use Rattle.cide_io.specs.Known.{IsTaken};

@@ -1,3 +1,5 @@
+//! What an object that is handed back does to its room's count of faults.
+
 ghost use Rattle.std.specs.Prelude.{◌≡◌};
 ghost use Rattle.cide_io.specs.Memory.{passed_on};
 ghost use Rattle.cide_io.specs.Rooms.{IsPassedOn};

@@ -1,3 +1,5 @@
+//! Sources over readers, as open files are.
+
 ghost use Rattle.std.specs.Prelude.{◌≡◌, ◌≤◌, length, is_err, if◌then◌else◌, IfOk, None};
 ghost use Rattle.std.specs.Io.KnownBytes.{ReadConsumes};
 ghost use Rattle.cide_io.specs.Faults.{HasCause, raised};

@@ -1,3 +1,5 @@
+//! The trait of rooms.
+
 ghost use Rattle.std.specs.Prelude.{◌≡◌, ℕ, ◌+◌, ◌-◌, ◌≤◌, List, [], Option, IfOk, OnOk, OnErr, Err, option_map};
 ghost use Rattle.cide_io.specs.Faults.{HasCause, Rose};
 ghost use Rattle.cide_io.specs.Known.{Known};

@@ -1,6 +1,8 @@
+//! The trait of sinks, and putting a whole piece.
+
 ghost use Rattle.std.specs.Prelude.{◌≡◌, ℕ, ◌<◌, ◌≤◌, length, IfOk};
 ghost use Rattle.cide_io.specs.Faults.{HasCause};
-ghost use Rattle.cide_io.specs.Known.{Known, IsPut, IsAdded};
+ghost use Rattle.cide_io.specs.Known.{Known, IsPut};
 
 use crate::faults::Failed;
 
@@ -23,21 +25,4 @@ pub trait Sink {
         ensures named { name self.new ≡ name self.old }
         // A failure comes only where the count rose.
         ensures cause { HasCause (faults self.old) (faults self.new) result };
-}
-
-/// Puts all of a piece, call after call. After a failure a proper prefix of it stands in the sink. An empty piece takes no
-/// call.
-pub fn put_all<K: Sink>(sink: &mut K, piece: &[u8]) -> Result<(), Failed>
-    ensures bytes { IsAdded (K.held sink.old) (K.held sink.new) piece.now result }
-    ensures named { K.name sink.new ≡ K.name sink.old }
-    ensures cause { HasCause (K.faults sink.old) (K.faults sink.new) result }
-{
-    let mut done = 0;
-    'pieces: while done < piece.len() {
-        match sink.put(&piece[done..]) {
-            Ok(count) => done += count,
-            Err(fault) => return Err(fault),
-        }
-    }
-    Ok(())
 }

@@ -1,3 +1,5 @@
+//! The trait of sources, and reading to the end.
+
 ghost use Rattle.std.specs.Prelude.{◌≡◌, ℕ, ◌<◌, ◌≤◌, ◌^◌, length, IfOk, Err};
 ghost use Rattle.std.specs.Vec.{vec_len};
 ghost use Rattle.cide_io.specs.Faults.{HasCause, Rose};

@@ -1,3 +1,5 @@
+//! Sinks over writers, as open files and the standard outputs are.
+
 ghost use Rattle.std.specs.Prelude.{◌≡◌, ◌<◌, ◌≤◌, length, is_err, if◌then◌else◌, IfOk, None};
 ghost use Rattle.std.specs.Io.KnownBytes.{WriteAppends};
 ghost use Rattle.cide_io.specs.Faults.{HasCause, raised};

@@ -5,8 +5,8 @@ use Rattle.std.specs.declared.alloc.Global.{Global}
 use Rattle.cide_io.specs.declared.faults.ReadAll.{ReadAll}
 use Rattle.cide_io.specs.declared.faults.ReadAll.TheVariants.{TooLong, ReadFault, NoMemory}
 use Rattle.cide_io.specs.Known.{Known, preceded, IsAtEnd, IsReadAll}
-use Rattle.cide_tool.specs.Running.{most_bytes, IsAllOf, IsTooLong}
-use Rattle.cide_tool.specs.Outcomes.{IsInput}
+use Rattle.cide_tool.specs.ProjectTexts.{most_bytes, IsAllOf, IsProjectText, IsTooLong}
+use Rattle.cide_tool.specs.Refusals.{IsInput}
 
 same_bytes : (a b : List ℕ) → Some a ≡ Some b → a ≡ b
 same_bytes a b e = cc e
@@ -26,10 +26,15 @@ too_long (Some bytes) None came e h = absurd (let no : ⊥ = cc e in no)
 too_long (Some bytes) (Some rest) came e h = record { text = bytes; all = refl; longer = longer_still bytes came rest (same_bytes _ _ e) h }
 
 input_read : (old new : Known) (r : Result (Vec ℕ Global) ReadAll) → IsReadAll most_bytes old new r → IsInput old r
-input_read old new (Ok all) h = (all_read old new all.items h.0 h.1, h.2)
+input_read old new (Ok text) h = record { all = all_read old new text.items h.0 h.1; short = h.2 }
 input_read old new (Err TooLong) h = too_long old new h.0 h.1 h.2
 input_read old new (Err ReadFault) h = tt
 input_read old new (Err NoMemory) h = tt
 
 pub named_input_read : (input old new : Known) (r : Result (Vec ℕ Global) ReadAll) → old ≡ input → IsReadAll most_bytes old new r → IsInput input r
 named_input_read input old new r e h = subst (λ i. IsInput i r) e (input_read old new r h)
+
+-- the project's text, told by equals
+pub text_as : (inputs : List ℕ → Known) (name other text items : List ℕ) → IsProjectText (inputs name) items → other ≡ name → text ≡ items → IsProjectText (inputs other) text
+text_as inputs name other text items h named same =
+    subst (λ (n : List ℕ). IsProjectText (inputs n) text) (sym named) (subst (λ (t : List ℕ). IsProjectText (inputs name) t) (sym same) h)

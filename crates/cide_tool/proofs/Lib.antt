@@ -1,5 +1,4 @@
 mod BadNames
-mod Ending
+mod ExportFaults
 mod Inputs
-mod OfInput
-mod Refusals
+mod Runs

@@ -1,5 +1,6 @@
 pub mod Checks
-pub mod Commands
+pub mod Endings
 pub mod Lines
-pub mod Outcomes
-pub mod Running
+pub mod NamedParts
+pub mod ProjectTexts
+pub mod Refusals

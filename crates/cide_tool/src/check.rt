@@ -1,33 +1,24 @@
-ghost use Rattle.std.specs.Prelude.{◌≡◌, ℕ, ◌≤◌, List, length, Some, IfOk, string_bytes};
+//! The command `check`.
+ghost use Rattle.std.specs.Prelude.{◌≡◌, ℕ, ◌≤◌, List, Some, IfOk, string_bytes};
 ghost use Rattle.std.specs.List.{list_all, list_any};
-ghost use Rattle.cfj_model.specs.Faults.{IsTextOf, projects};
 ghost use Rattle.cide_io.specs.Faults.{Rose};
-ghost use Rattle.unit_facts.specs.Diagnostics.{IsChecked, is_decided_entry, is_decided_verdict};
-ghost use Rattle.unit_facts.specs.Findings.{findings, is_broken};
+ghost use Rattle.cide_io.specs.Known.{Known};
+ghost use Rattle.cide_io.specs.Changes.{Gains, OnlyReads};
+ghost use Rattle.command_words.specs.Asked.{Asked};
+ghost use Rattle.unit_facts.specs.Diagnostics.{IsChecked, is_decided_verdict, is_broken};
+ghost use Rattle.unit_facts.specs.Findings.{findings};
 ghost use Rattle.cide_tool.specs.Checks.{findings_status};
-ghost use Rattle.cide_tool.specs.Running.{most_bytes};
-ghost use Rattle.cide_tool.specs.Outcomes.{IsCheckOutcome, IsEnded};
+ghost use Rattle.cide_tool.specs.ProjectTexts.{StandsFor};
+ghost use Rattle.cide_tool.specs.Refusals.{IsAnswer};
 
-use crate::input::read_input;
-use crate::outcome::Outcome;
-use crate::refusal::refused;
-use cfj_model::{ParseFault, Project};
-use cide_io::{ReadAll, Room, Sink, put_all};
+use crate::project::read_project;
+use crate::refusal::Refusal;
+use cfj_model::Project;
+use cide_io::{Room, Sink, put_all};
 use clean_law::clean_variants;
-use fj_parser::parse_project;
 use plain_judge::{Findings, judge_project};
 use std::alloc::{AllocError, Global};
 use unit_facts::{Entry, Verdict, decides_few_features, findings_of};
-
-/// Whether an entry is decided.
-fn is_decided_entry(entry: &Entry) -> bool
-    ensures { result ≡ is_decided_entry entry.now }
-{
-    match entry {
-        Entry::Broken { .. } => true,
-        Entry::Undecided { .. } => false,
-    }
-}
 
 /// Whether a verdict is decided.
 fn is_decided_verdict(verdict: &Verdict) -> bool
@@ -47,24 +38,24 @@ fn is_any_broken(entries: &[Entry]) -> bool
     entries.iter().any(|entry| entry.is_broken())
 }
 
-/// Whether all entries are decided.
-fn is_each_decided(entries: &[Entry]) -> bool
-    ensures { result ≡ list_all is_decided_entry entries.now }
+/// Whether all entries are broken, so that none is undecided.
+fn is_each_broken(entries: &[Entry]) -> bool
+    ensures { result ≡ list_all is_broken entries.now }
 {
-    entries.iter().all(is_decided_entry)
+    entries.iter().all(|entry| entry.is_broken())
 }
 
-/// How a check ends that found this.
-fn ended(verdict: &Verdict, entries: &[Entry]) -> Outcome
-    ensures { IsEnded (findings_status verdict.now entries.now) result }
+/// The status that tells what is found.
+fn status_of(verdict: &Verdict, entries: &[Entry]) -> u8
+    ensures { result ≡ findings_status verdict.now entries.now }
 {
     if is_any_broken(entries) {
-        return Outcome::Broken;
+        return 1;
     }
-    if is_decided_verdict(verdict) && is_each_decided(entries) {
-        Outcome::Done
+    if is_decided_verdict(verdict) && is_each_broken(entries) {
+        0
     } else {
-        Outcome::Undecided
+        2
     }
 }
 
@@ -87,104 +78,73 @@ fn findings_text(
     )
 }
 
-/// Puts out what is found of a project that was read.
-fn report<O: Sink>(
+/// Puts out the text of what is found of a project, and gives the status that tells it.
+fn put_text<O: Sink>(
+    project: &Project,
+    budget: u32,
+    found: &Findings,
+    text: &str,
+    out: &mut O,
+) -> Result<u8, Refusal>
+    requires checked { IsChecked project.now budget found.now.verdict found.now.entries }
+    requires text { text.now ≡ findings project.now.model.features found.now.verdict found.now.entries }
+    ensures { (inputs : List ℕ → Known) (name : List ℕ) → StandsFor (inputs name) project.now
+        → IsAnswer inputs ⊥ (Gains O.Sink out.old out.new) (Some (Asked.check name budget)) result }
+{
+    // What holds of findings without entries, and of few features, rests on these laws.
+    clean_variants(project);
+    decides_few_features();
+    put_all(out, text.as_bytes())?;
+    Ok(status_of(&found.verdict, found.entries.slice()))
+}
+
+/// Puts out what is found of a project, and gives the status that tells it.
+fn put_findings<O: Sink>(
     alloc: Global,
-    text: &[u8],
     project: &Project,
     budget: u32,
     found: &Findings,
     out: &mut O,
-) -> Outcome
-    requires read { IsTextOf projects text.now project.now }
-    requires checked { IsChecked project.now budget found.now.verdict found.now.entries }
-    ensures text { IsCheckOutcome (Some text.now) budget (O.held out.old) (O.held out.new) result }
-    ensures read { ¬ (result ≡ Outcome.ReadFault) }
-    ensures write { result ≡ Outcome.WriteFault → Rose (O.faults out.old) (O.faults out.new) }
-    ensures named { O.name out.new ≡ O.name out.old }
-    ensures later { O.faults out.old ≤ O.faults out.new }
+) -> Result<u8, Refusal>
+    requires { IsChecked project.now budget found.now.verdict found.now.entries }
+    ensures { (inputs : List ℕ → Known) (name : List ℕ) → StandsFor (inputs name) project.now
+        → IsAnswer inputs ⊥ (Gains O.Sink out.old out.new) (Some (Asked.check name budget)) result }
 {
-    // What the status says of the findings rests on these laws.
-    decides_few_features();
-    clean_variants(project);
-    let printed = match findings_text(alloc, project, budget, found) {
-        Ok(printed) => printed,
-        Err(_) => return Outcome::NoMemory,
-    };
-    match put_all(out, printed.as_bytes()) {
-        Ok(()) => ended(&found.verdict, found.entries.slice()),
-        Err(_) => Outcome::WriteFault,
-    }
+    let text = findings_text(alloc, project, budget, found)?;
+    put_text(project, budget, found, text.as_str(), out)
 }
 
-/// Judges a project that was read, and puts out what is found.
-fn judge<O: Sink>(
+/// Judges a project, and puts out what is found.
+fn check_project<O: Sink>(
     alloc: Global,
-    text: &[u8],
     project: &Project,
     budget: u32,
     out: &mut O,
-) -> Outcome
-    requires read { IsTextOf projects text.now project.now }
+) -> Result<u8, Refusal>
     requires some { 1 ≤ budget }
     requires few { budget ≤ 20000 }
-    ensures text { IsCheckOutcome (Some text.now) budget (O.held out.old) (O.held out.new) result }
-    ensures read { ¬ (result ≡ Outcome.ReadFault) }
-    ensures write { result ≡ Outcome.WriteFault → Rose (O.faults out.old) (O.faults out.new) }
-    ensures named { O.name out.new ≡ O.name out.old }
-    ensures later { O.faults out.old ≤ O.faults out.new }
+    ensures { (inputs : List ℕ → Known) (name : List ℕ) → StandsFor (inputs name) project.now
+        → IsAnswer inputs ⊥ (Gains O.Sink out.old out.new) (Some (Asked.check name budget)) result }
 {
-    match judge_project(alloc, project, budget) {
-        Ok(found) => report(alloc, text, project, budget, &found, out),
-        Err(_) => Outcome::NoMemory,
-    }
+    let found = judge_project(alloc, project, budget)?;
+    put_findings(alloc, project, budget, &found, out)
 }
 
-/// Checks the project that a text stands for.
-fn check_text<O: Sink>(alloc: Global, text: &[u8], budget: u32, out: &mut O) -> Outcome
-    requires short { length text.now ≤ most_bytes }
-    requires some { 1 ≤ budget }
-    requires few { budget ≤ 20000 }
-    ensures text { IsCheckOutcome (Some text.now) budget (O.held out.old) (O.held out.new) result }
-    ensures read { ¬ (result ≡ Outcome.ReadFault) }
-    ensures write { result ≡ Outcome.WriteFault → Rose (O.faults out.old) (O.faults out.new) }
-    ensures named { O.name out.new ≡ O.name out.old }
-    ensures later { O.faults out.old ≤ O.faults out.new }
-{
-    match parse_project(alloc, text) {
-        Ok(project) => judge(alloc, text, &project, budget, out),
-        Err(ParseFault::At { at, kind }) => refused(alloc, text, at, &kind),
-        Err(ParseFault::NoMemory) => Outcome::NoMemory,
-    }
-}
-
-/// Checks the project that the text of this name stands for, and puts out what is found. The budget is the most clauses in the log
-/// of what is undecided.
+/// Checks the project of this name, puts out what is found, and gives the status that tells it. The budget is the most clauses in the
+/// log of what is undecided.
 pub fn check<R: Room, O: Sink>(
     alloc: Global,
     name: &str,
     budget: u32,
     room: &mut R,
     out: &mut O,
-) -> Outcome
+) -> Result<u8, Refusal>
     requires some { 1 ≤ budget }
     requires few { budget ≤ 20000 }
-    ensures text { IsCheckOutcome (R.input room.old name.now) budget (O.held out.old) (O.held out.new) result }
-    ensures read { result ≡ Outcome.ReadFault → Rose (R.read_faults room.old) (R.read_faults room.new) }
-    ensures write { result ≡ Outcome.WriteFault → Rose (O.faults out.old) (O.faults out.new) }
-    ensures named { O.name out.new ≡ O.name out.old }
-    ensures later { O.faults out.old ≤ O.faults out.new }
-    // Nothing of the room changes but its count of read faults.
-    ensures reads { R.read_faults room.old ≤ R.read_faults room.new }
-    ensures inputs { (other : List ℕ) → R.input room.new other ≡ R.input room.old other }
-    ensures outputs { R.shut_outputs room.new ≡ R.shut_outputs room.old }
-    ensures open { R.open_outputs room.new ≡ R.open_outputs room.old }
-    ensures writes { R.write_faults room.new ≡ R.write_faults room.old }
+    ensures answer { IsAnswer (R.input room.old) (Rose (R.read_faults room.old) (R.read_faults room.new))
+        (Gains O.Sink out.old out.new) (Some (Asked.check name.now budget)) result }
+    ensures frame { OnlyReads R.Room room.old room.new }
 {
-    match read_input(alloc, room, name) {
-        Ok(text) => check_text(alloc, text.as_slice(), budget, out),
-        Err(ReadAll::TooLong) => Outcome::TooLong,
-        Err(ReadAll::ReadFault) => Outcome::ReadFault,
-        Err(ReadAll::NoMemory) => Outcome::NoMemory,
-    }
+    let project = read_project(alloc, room, name)?;
+    check_project(alloc, &project, budget, out)
 }

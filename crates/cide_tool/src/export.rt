@@ -1,40 +1,43 @@
-ghost use Rattle.std.specs.Prelude.{◌≡◌, ℕ, ◌≤◌, List, length, map, Some, IfOk, string_bytes};
-ghost use Rattle.cfj_model.specs.Faults.{IsTextOf, projects};
+//! The command `export`.
+ghost use Rattle.std.specs.Prelude.{◌≡◌, ℕ, List, map, Some, IfOk, IfErr, string_bytes};
 ghost use Rattle.cide_io.specs.Faults.{Rose};
+ghost use Rattle.cide_io.specs.Known.{Known};
+ghost use Rattle.cide_io.specs.Changes.{Gains, OnlyReads};
+ghost use Rattle.command_words.specs.Asked.{Asked};
 ghost use Rattle.feature_model.specs.NamedSelections.{IsSpelled, IsFirstBad};
-ghost use Rattle.cide_tool.specs.Lines.{bad_name, names_line};
-ghost use Rattle.cide_tool.specs.Running.{most_bytes, named_parts};
-ghost use Rattle.cide_tool.specs.Outcomes.{IsExportOutcome, IsInvalidAt};
+ghost use Rattle.cfj_logic.specs.Validity.{IsFirstFalse};
+ghost use Rattle.cide_tool.specs.Lines.{bad_name, invalid_line, names_line};
+ghost use Rattle.cide_tool.specs.NamedParts.{named_parts};
+ghost use Rattle.cide_tool.specs.ProjectTexts.{StandsFor};
+ghost use Rattle.cide_tool.specs.Refusals.{IsAnswer, IsRefusal};
 
-use crate::input::read_input;
-use crate::names::selection_of;
-use crate::outcome::Outcome;
-use crate::refusal::refused;
+use crate::names::read_names;
+use crate::project::read_project;
+use crate::refusal::Refusal;
 use crate::words::parts;
-use cfj_model::{ParseFault, Project, Selection};
-use cide_io::{ReadAll, Room, Sink};
+use cfj_model::{Project, Selection};
+use cide_io::{Room, Sink};
 use feature_model::NameFault;
-use fj_parser::parse_project;
 use std::alloc::{AllocError, Global};
-use variant_export::{ExportFault, export as export_to};
+use variant_export::{ExportFault, export as export_variant};
 
 /// The line that tells the first bad name.
-fn names_refusal(alloc: Global, parts: &[&str], fault: NameFault) -> Result<String, AllocError>
+fn names_line(alloc: Global, parts: &[&str], fault: NameFault) -> Result<String, AllocError>
     ensures { IfOk result (λ line. string_bytes line ≡ names_line (map (λ part. part.now) parts.now) fault) }
 {
     match fault {
         NameFault::NoFeature(at) => {
-            let name = bad_name(parts, at);
+            let name = name_at(parts, at);
             format!(in alloc; "refused names: NoFeature {name}\n")
         }
         NameFault::Twice(at) => {
-            let name = bad_name(parts, at);
+            let name = name_at(parts, at);
             format!(in alloc; "refused names: Twice {name}\n")
         }
     }
 }
 
-fn bad_name<'a>(parts: &[&'a str], at: usize) -> &'a str
+fn name_at<'a>(parts: &[&'a str], at: usize) -> &'a str
     ensures { result.now ≡ bad_name (map (λ part. part.now) parts.now) at }
 {
     match parts.get(at) {
@@ -43,129 +46,96 @@ fn bad_name<'a>(parts: &[&'a str], at: usize) -> &'a str
     }
 }
 
-/// What becomes of a word with a bad name. Without memory for the line there is none to say which.
-fn names_refused(
+/// The refusal of names of which one is bad. Without memory for the line there is none to say which.
+fn bad_name(alloc: Global, parts: &[&str], fault: NameFault) -> Refusal
+    ensures { (inputs : List ℕ → Known) (name names : List ℕ) (line : _) → StandsFor (inputs name) line
+        → map (λ part. part.now) parts.now ≡ named_parts names
+        → IsFirstBad line.model.features (named_parts names) fault
+        → IsRefusal inputs ⊥ (Some (Asked.export name names)) result }
+{
+    match names_line(alloc, parts, fault) {
+        Ok(line) => Refusal::BadName(line),
+        Err(_) => Refusal::NoMemory,
+    }
+}
+
+/// The line that tells the first constraint that is false.
+fn invalid_line(alloc: Global, at: usize) -> Result<String, AllocError>
+    ensures { IfOk result (λ line. string_bytes line ≡ invalid_line at) }
+{
+    format!(in alloc; "invalid selection: constraint {at}\n")
+}
+
+/// The refusal of a selection under which this constraint is the first that is false. Without memory for the line there is none to
+/// say which.
+fn invalid(alloc: Global, at: usize) -> Refusal
+    ensures { (inputs : List ℕ → Known) (name names : List ℕ) (line : _) (s : _) → StandsFor (inputs name) line
+        → IsSpelled line.model.features (named_parts names) s → IsFirstFalse line.model.constraints s at
+        → IsRefusal inputs ⊥ (Some (Asked.export name names)) result }
+{
+    match invalid_line(alloc, at) {
+        Ok(line) => Refusal::Invalid(line),
+        Err(_) => Refusal::NoMemory,
+    }
+}
+
+/// The selection of a project's features that the parts of a word name.
+fn selection_of_parts(
     alloc: Global,
-    text: &[u8],
     project: &Project,
-    names: &str,
     parts: &[&str],
-    fault: NameFault,
-) -> Outcome
-    requires read { IsTextOf projects text.now project.now }
-    requires parts { map (λ part. part.now) parts.now ≡ named_parts names.now }
-    requires first { IsFirstBad project.now.model.features (named_parts names.now) fault }
-    ensures told { (old : _) → IsExportOutcome (Some text.now) names.now old old result }
-    ensures read { ¬ (result ≡ Outcome.ReadFault) }
-    ensures write { ¬ (result ≡ Outcome.WriteFault) }
+) -> Result<Selection, Refusal>
+    ensures spelled { IfOk result (IsSpelled project.now.model.features (map (λ part. part.now) parts.now)) }
+    ensures refused { IfErr result (λ refusal. (inputs : List ℕ → Known) (name names : List ℕ)
+        → map (λ part. part.now) parts.now ≡ named_parts names → StandsFor (inputs name) project.now
+        → IsRefusal inputs ⊥ (Some (Asked.export name names)) refusal) }
 {
-    match names_refusal(alloc, parts, fault) {
-        Ok(line) => Outcome::Refused(line),
-        Err(_) => Outcome::NoMemory,
+    match read_names(alloc, project.model(), parts)? {
+        Ok(selection) => Ok(selection),
+        Err(fault) => Err(bad_name(alloc, parts, fault)),
     }
 }
 
-/// What becomes of a selection under which this constraint is the first that is false. Without memory for the line there is
-/// none to say which.
-fn invalid(alloc: Global, at: usize) -> Outcome
-    ensures { IsInvalidAt at result }
+/// The selection of a project's features that a word names.
+fn selection_of(alloc: Global, project: &Project, names: &str) -> Result<Selection, Refusal>
+    ensures spelled { IfOk result (IsSpelled project.now.model.features (named_parts names.now)) }
+    ensures refused { IfErr result (λ refusal. (inputs : List ℕ → Known) (name : List ℕ)
+        → StandsFor (inputs name) project.now → IsRefusal inputs ⊥ (Some (Asked.export name names.now)) refusal) }
 {
-    match format!(in alloc; "invalid selection: constraint {at}\n") {
-        Ok(line) => Outcome::Invalid(line),
-        Err(_) => Outcome::NoMemory,
-    }
+    let parts = parts(alloc, names)?;
+    selection_of_parts(alloc, project, parts.as_slice())
 }
 
-/// Prints the variant of a selection of the features of a project that was read, where the selection is valid.
-fn export_variant<O: Sink>(
+/// Prints the variant that a project has under the selection that the names in a word spell.
+fn export_project<O: Sink>(
     alloc: Global,
-    text: &[u8],
-    names: &str,
     project: &Project,
-    selection: &Selection,
-    out: &mut O,
-) -> Outcome
-    requires read { IsTextOf projects text.now project.now }
-    requires spelled { IsSpelled project.now.model.features (named_parts names.now) selection.now }
-    ensures text { IsExportOutcome (Some text.now) names.now (O.held out.old) (O.held out.new) result }
-    ensures read { ¬ (result ≡ Outcome.ReadFault) }
-    ensures write { result ≡ Outcome.WriteFault → Rose (O.faults out.old) (O.faults out.new) }
-    ensures named { O.name out.new ≡ O.name out.old }
-    ensures later { O.faults out.old ≤ O.faults out.new }
-{
-    match export_to(project, selection, out) {
-        Ok(()) => Outcome::Done,
-        Err(ExportFault::InvalidSelection(at)) => invalid(alloc, at),
-        Err(ExportFault::WriteFault) => Outcome::WriteFault,
-    }
-}
-
-/// Prints the variant that a project that was read has under the names in a word.
-fn export_named<O: Sink>(
-    alloc: Global,
-    text: &[u8],
     names: &str,
-    project: &Project,
     out: &mut O,
-) -> Outcome
-    requires { IsTextOf projects text.now project.now }
-    ensures text { IsExportOutcome (Some text.now) names.now (O.held out.old) (O.held out.new) result }
-    ensures read { ¬ (result ≡ Outcome.ReadFault) }
-    ensures write { result ≡ Outcome.WriteFault → Rose (O.faults out.old) (O.faults out.new) }
-    ensures named { O.name out.new ≡ O.name out.old }
-    ensures later { O.faults out.old ≤ O.faults out.new }
+) -> Result<u8, Refusal>
+    ensures { (inputs : List ℕ → Known) (name : List ℕ) → StandsFor (inputs name) project.now
+        → IsAnswer inputs ⊥ (Gains O.Sink out.old out.new) (Some (Asked.export name names.now)) result }
 {
-    let parts = match parts(alloc, names) {
-        Ok(parts) => parts,
-        Err(_) => return Outcome::NoMemory,
-    };
-    match selection_of(alloc, project.model(), parts.as_slice()) {
-        Ok(Ok(selection)) => export_variant(alloc, text, names, project, &selection, out),
-        Ok(Err(fault)) => names_refused(alloc, text, project, names, parts.as_slice(), fault),
-        Err(_) => Outcome::NoMemory,
+    let selection = selection_of(alloc, project, names)?;
+    match export_variant(project, &selection, out) {
+        Ok(()) => Ok(0),
+        Err(ExportFault::InvalidSelection(at)) => Err(invalid(alloc, at)),
+        Err(ExportFault::WriteFault) => Err(Refusal::WriteFault),
     }
 }
 
-/// Prints the variant that a text and the names in a word stand for.
-fn export_text<O: Sink>(alloc: Global, text: &[u8], names: &str, out: &mut O) -> Outcome
-    requires { length text.now ≤ most_bytes }
-    ensures text { IsExportOutcome (Some text.now) names.now (O.held out.old) (O.held out.new) result }
-    ensures read { ¬ (result ≡ Outcome.ReadFault) }
-    ensures write { result ≡ Outcome.WriteFault → Rose (O.faults out.old) (O.faults out.new) }
-    ensures named { O.name out.new ≡ O.name out.old }
-    ensures later { O.faults out.old ≤ O.faults out.new }
-{
-    match parse_project(alloc, text) {
-        Ok(project) => export_named(alloc, text, names, &project, out),
-        Err(ParseFault::At { at, kind }) => refused(alloc, text, at, &kind),
-        Err(ParseFault::NoMemory) => Outcome::NoMemory,
-    }
-}
-
-/// Prints the variant that the text of this name and the names in a word stand for.
+/// Prints the variant that the project of this name has under the selection that the names in a word spell.
 pub fn export<R: Room, O: Sink>(
     alloc: Global,
     name: &str,
     names: &str,
     room: &mut R,
     out: &mut O,
-) -> Outcome
-    ensures text { IsExportOutcome (R.input room.old name.now) names.now (O.held out.old) (O.held out.new) result }
-    ensures read { result ≡ Outcome.ReadFault → Rose (R.read_faults room.old) (R.read_faults room.new) }
-    ensures write { result ≡ Outcome.WriteFault → Rose (O.faults out.old) (O.faults out.new) }
-    ensures named { O.name out.new ≡ O.name out.old }
-    ensures later { O.faults out.old ≤ O.faults out.new }
-    // Nothing of the room changes but its count of read faults.
-    ensures reads { R.read_faults room.old ≤ R.read_faults room.new }
-    ensures inputs { (other : List ℕ) → R.input room.new other ≡ R.input room.old other }
-    ensures outputs { R.shut_outputs room.new ≡ R.shut_outputs room.old }
-    ensures open { R.open_outputs room.new ≡ R.open_outputs room.old }
-    ensures writes { R.write_faults room.new ≡ R.write_faults room.old }
+) -> Result<u8, Refusal>
+    ensures answer { IsAnswer (R.input room.old) (Rose (R.read_faults room.old) (R.read_faults room.new))
+        (Gains O.Sink out.old out.new) (Some (Asked.export name.now names.now)) result }
+    ensures frame { OnlyReads R.Room room.old room.new }
 {
-    match read_input(alloc, room, name) {
-        Ok(text) => export_text(alloc, text.as_slice(), names, out),
-        Err(ReadAll::TooLong) => Outcome::TooLong,
-        Err(ReadAll::ReadFault) => Outcome::ReadFault,
-        Err(ReadAll::NoMemory) => Outcome::NoMemory,
-    }
+    let project = read_project(alloc, room, name)?;
+    export_project(alloc, &project, names, out)
 }

@@ -1,19 +1,16 @@
 //! The commands of the program, over any room and any two sinks.
 //!
 //! [`run`] takes the words that follow the program's name, does what they ask, and gives the status that the program
-//! ends with. It rests on `command_words` for what they ask, on `cide_io` for its ends, and on `fj_parser` for reading. A check
-//! rests on `plain_judge` for what is found, on `unit_facts` for its text, and on `clean_law` for what no finding means; an
-//! export on `feature_model` and `variant_export`. Work comes in a fixed order: the words, the project's text, its length, its
-//! grammar, the names of features, and then the command. Each status but that for want of memory has a cause which the
-//! contract names, and each but 0, 1 and 2 has one line on the second sink. What a status says of a project's text holds of
-//! what the room tells under that name; a room that tells nothing has some such text.
+//! ends with: `specs/Endings.antt` lists the ways to end with their causes. It rests on `command_words` for what the words ask, on
+//! `cide_io` for its ends, and on `fj_parser` for reading. A check rests on `plain_judge` for what is found, on `unit_facts` for its
+//! text, and on `clean_law` for what no finding means; an export on `feature_model` and `variant_export`. Work comes in a fixed order:
+//! the words, the project's text, its length, its grammar, the names of features, and then the command.
 #![tactic(auto)]
 
 mod check;
 mod export;
-mod input;
 mod names;
-mod outcome;
+mod project;
 mod refusal;
 mod running;
 mod words;

@@ -1,3 +1,4 @@
+//! The features that a list of texts names.
 ghost use Rattle.std.specs.Prelude.{◌≡◌, ℕ, ◌≤◌, List, ◌∷◌, ◌++◌, true, false, length, map, IfOk, IfErr};
 ghost use Rattle.std.specs.List.{list_all};
 ghost use Rattle.cfj_words.specs.Names.{is_among, is_short_identifier};
@@ -9,7 +10,7 @@ use feature_model::{NameFault, read_selection};
 use std::alloc::{AllocError, Global};
 
 /// The selection of the features with these names, or the first bad name. A text that can't be a name is no feature's.
-pub fn selection_of(
+pub fn read_names(
     alloc: Global,
     model: &FeatureModel,
     parts: &[&str],

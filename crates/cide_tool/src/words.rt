@@ -1,6 +1,7 @@
+//! The parts of a word.
 ghost use Rattle.std.specs.Prelude.{◌≡◌, ◌==◌, map, IfOk};
 ghost use Rattle.std.specs.List.{slice_split};
-ghost use Rattle.cide_tool.specs.Running.{named_parts};
+ghost use Rattle.cide_tool.specs.NamedParts.{named_parts};
 
 use std::alloc::{AllocError, Global};
 

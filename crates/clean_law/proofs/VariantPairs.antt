@@ -3,7 +3,7 @@ use Rattle.std.proofs.Common.{refl, ℕ, Bool, List, [], ◌∷◌, ◌++◌, ap
 use Rattle.std.specs.List.{flat_map}
 use Rattle.std.proofs.lemmas.List.Folds.{flat_map-map}
 use Rattle.cfj_model.proofs.ExprCases.{Proved, args_of, by_cases}
-use Rattle.cfj_model.specs.Judging.{Pair, pairs_of}
+use Rattle.cfj_model.specs.Judging.{Pair, insert_ranked, pairs_of, rank}
 use Rattle.cfj_model.specs.ProductLines.{ProductLine}
 use Rattle.cfj_model.specs.Projection.{bare_field, bare_param, is_present, presence_of, projected, projected_class, projected_expr, projected_method}
 use Rattle.cfj_logic.specs.Selections.{Chosen}
@@ -59,14 +59,14 @@ module _ (s : Chosen) (at : ℕ → Site) where
         (node_call at slot on method args more)
         (among_append _ _ _ _ (part around []) (among_behind own _ _ (arg_among around E5 ys)));
     new_case = λ slot class ys around more.
-        let own = pairs_at (at slot) (K1 ∷ (E6 ∷ more)) in
+        let own = pairs_at (at slot) (K1 ∷ insert_ranked rank E6 more) in
         let args = args_of KeepsPairs ys in
         among_as _ _ (own ++ arg_pairs at E7 (projected_args s around args)) (own ++ arg_pairs at E7 args)
         (ap (λ x. node_pairs at x more) (projected_new s around slot class args) ∙ node_new at slot class (projected_args s around args) more)
         (node_new at slot class args more)
         (among_behind own _ _ (arg_among around E7 ys));
     cast_case = λ slot class on part around more.
-        let own = pairs_at (at slot) (K1 ∷ (E8 ∷ more)) in
+        let own = pairs_at (at slot) (K1 ∷ insert_ranked rank E8 more) in
         among_as _ _ (own ++ node_pairs at (projected_expr s around on) []) (own ++ node_pairs at on [])
         (ap (λ x. node_pairs at x more) (projected_cast s around slot class on) ∙ node_cast at slot class (projected_expr s around on) more)
         (node_cast at slot class on more)

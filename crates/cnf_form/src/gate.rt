@@ -1,3 +1,5 @@
+//! A gate as clauses.
+
 ghost use Rattle.std.specs.Prelude.{◌≡◌, ◌<◌, ◌≤◌, ◌↔◌, true, ◌+◌, [], ◌∷◌, length, IfOk, if◌then◌else◌};
 ghost use Rattle.cfj_logic.specs.Logs.{AreSettledByFeatures, AreWellFormed, ExtendsToModel};
 ghost use Rattle.cfj_logic.specs.Selections.{Chosen};

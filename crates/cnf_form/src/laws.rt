@@ -1,3 +1,5 @@
+//! Laws of a gate's clauses.
+
 ghost use Rattle.std.specs.Prelude.{◌≡◌, ◌<◌, ◌↔◌, length, true};
 ghost use Rattle.cfj_logic.specs.Logs.{AreSettledByFeatures, ExtendsToModel};
 ghost use Rattle.cond_circuit.specs.Gates.{value};

@@ -1,3 +1,5 @@
+//! The clauses that give a variable the value of a part.
+
 ghost use Rattle.std.specs.Prelude.{if◌then◌else◌, ◌&&◌, ◌≡◌, ◌∷◌, [], ◌++◌, ◌<◌, length, IfOk, OnOk, slice_index_or, true, false, not};
 ghost use Rattle.cnf_form.specs.GateClauses as spec;
 ghost use Rattle.cnf_form.specs.Reaching.{AreBelow};

@@ -1,3 +1,5 @@
+//! The gates that a gate reaches.
+
 ghost use Rattle.std.specs.Prelude.{◌≡◌, ◌<◌, ◌+◌, length, IfOk, replicate, false};
 ghost use Rattle.cnf_form.specs.Reaching.{AreBelow, AreReached, with_operands};
 

@@ -1,3 +1,5 @@
+//! What the words of a run may ask.
+
 /// What the words of a run ask.
 #[derive(Clone, Copy, Debug, PartialEq, Eq)]
 pub enum Asked<'a> {

@@ -1,3 +1,5 @@
+//! The words of `check`.
+
 ghost use Rattle.std.specs.Prelude.{◌≡◌, IfOk, IfSome, option_map};
 ghost use Rattle.clap.specs.Words.{app_of, found_of, rows_of};
 ghost use Rattle.command_words.specs.Asked.{asked_check, check_command, check_of};

@@ -1,3 +1,5 @@
+//! The words of `export`.
+
 ghost use Rattle.std.specs.Prelude.{◌≡◌, IfOk, option_map};
 ghost use Rattle.clap.specs.Words.{app_of, found_of, rows_of};
 ghost use Rattle.command_words.specs.Asked.{asked_export, export_command, export_of};

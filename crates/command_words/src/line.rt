@@ -1,3 +1,5 @@
+//! A command line, as `clap` reads it.
+
 ghost use Rattle.std.specs.Prelude.{◌≡◌, ◌↔◌, Err, IfOk, true, false, option_map};
 ghost use Rattle.clap.specs.Words.{app_of, first_of, found_of, is_simple_and_free, kind_of, matches_of, rows_of};
 ghost use Rattle.command_words.specs.Asked.{takes_words};

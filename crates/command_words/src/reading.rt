@@ -1,3 +1,5 @@
+//! The words of a run, from the first on.
+
 ghost use Rattle.std.specs.Prelude.{◌≡◌, map, Some, None, Err, IfOk, string_bytes};
 ghost use Rattle.command_words.specs.Asked.{asked, asked_of};
 ghost use Rattle.command_words.specs.Reading.{texts, seen, IsAnswer, IsBounded};

@@ -1,3 +1,5 @@
+//! Circuits: gates over the features of a model, each made once.
+
 ghost use Rattle.std.specs.Prelude.{◌≡◌, ℕ, ◌<◌, ◌≤◌, ◌^◌, [], ◌∷◌, length, IfOk, OnErr, IsTrue, Some, not, ◌&&◌, ◌||◌, slice_get, if◌then◌else◌};
 ghost use Rattle.cfj_logic.specs.Formulas.{truth, is_over};
 ghost use Rattle.cfj_logic.specs.Selections.{is_on};

@@ -1,3 +1,5 @@
+//! What an operation on gates folds to.
+
 ghost use Rattle.std.specs.Prelude.{◌≡◌};
 ghost use Rattle.cond_circuit.specs.Folding as spec;
 

@@ -1,3 +1,5 @@
+//! The gates of a circuit by their parts.
+
 ghost use Rattle.std.specs.BTreeMap.{IsUnchanged, get};
 ghost use Rattle.std.specs.Ordering.{is_eq};
 ghost use Rattle.std.specs.Prelude.{◌≡◌, ◌++◌, ◌∷◌, [], length, IfOk, OnOk, OnErr, None, Some, if◌then◌else◌};

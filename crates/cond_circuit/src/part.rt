@@ -1,3 +1,5 @@
+//! The parts of gates.
+
 /// What a gate is: its kind and its operands, which are numbers of gates before it.
 #[derive(Clone, Copy, Debug, PartialEq, Eq, PartialOrd, Ord)]
 pub enum Part {

@@ -1,5 +1,5 @@
 -- What a look-up of a name by its place tells.
-use Rattle.std.proofs.Common.{◌≡◌, refl, sym, ap, ◌∙◌, ℕ, ◌<◌, Bool, true, false, cond, nat_lt, List, length, slice_get, slice_index_or, Some, None, position, arith}
+use Rattle.std.proofs.Common.{◌≡◌, refl, sym, ap, ◌∙◌, ℕ, Bool, true, false, cond, nat_lt, List, length, slice_get, slice_index_or, Some, None, position, arith}
 use Rattle.std.specs.List.{position_or_len}
 use Rattle.std.specs.Str.{bytes_eq}
 use Rattle.std.proofs.lemmas.Bool.{ltb-false}
@@ -14,9 +14,6 @@ pub name_at : (features : List (List ℕ)) (name : List ℕ) (place : ℕ) → p
 name_at features name place e =
     let found = position-Some (λ f. bytes_eq f name) features place name e in
     slice_get_read features (length features) place name refl found.0 (sym ((bytes_eq-Decides (slice_index_or features place name) name).0 found.1))
-
-pub place_within : (features : List (List ℕ)) (name : List ℕ) (place : ℕ) → position (λ f. bytes_eq f name) features ≡ Some place → place < length features
-place_within features name place e = (position-Some (λ f. bytes_eq f name) features place name e).0
 
 pub name_nowhere : (features : List (List ℕ)) (name : List ℕ) → position (λ f. bytes_eq f name) features ≡ None → is_among features name ≡ false
 name_nowhere features name e = go (nat_lt place (length features)) refl

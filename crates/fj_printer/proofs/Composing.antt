@@ -1,11 +1,13 @@
 -- How what two calls add is what one adds.
-use Rattle.std.proofs.Common.{subst, OnOk, IsErr, ◌≡◌, refl, sym, ap, ◌∙◌, ℕ, ◌<◌, ◌≤◌, List, [], ◌++◌, length, take, drop, Result, Ok, Err, Some, None, length-append, append-nil, arith}
+use Rattle.std.proofs.Common.{subst, OnOk, IsErr, ◌≡◌, refl, sym, ap, ◌∙◌, ℕ, ◌≤◌, List, [], ◌++◌, length, take, drop, Result, Ok, Err, Some, None, length-append, append-nil, arith}
 use Rattle.std.proofs.lemmas.List.{append_assoc, take-append-drop}
 use Rattle.std.proofs.lemmas.Result.{IfOk-from_err}
 use Rattle.cide_io.specs.declared.faults.Failed.{Failed}
 use Rattle.cide_io.specs.Faults.{HasCause, Rose}
 use Rattle.cide_io.specs.Known.{Known, appended, IsCut, IsAdded}
-use Rattle.fj_printer.specs.Adds.{Outlet, IsPassed, Carries}
+use Rattle.cide_io.specs.Changes.{Gains}
+use Rattle.cide_io.specs.declared.sinks.Sink as sink
+use Rattle.fj_printer.specs.Adds.{Outlet, IsPassed, Carries, outlet}
 
 appended_twice : (known : Known) (x y : List ℕ) → appended (appended known x) y ≡ appended known (x ++ y)
 appended_twice None x y = refl
@@ -73,14 +75,6 @@ gained_nothing : (known : Known) → known ≡ appended known []
 gained_nothing None = refl
 gained_nothing (Some bytes) = ap Some (sym (append-nil bytes))
 
--- nothing is done
-pub adds_nothing : (a : Outlet) (u : Unit {0}) → Carries a a [] (Ok u)
-adds_nothing a u = record {
-  taken = record { sent = []; split = append-nil a.pending; gained = gained_nothing a.held };
-  named = refl;
-  cause = record { later = omega arith; cause = tt };
-}
-
 -- the front of what waits goes to the sink
 pub adds_sent : (a b : Outlet) (n : ℕ) → b.held ≡ appended a.held (take n a.pending) → b.pending ≡ drop n a.pending → b.name ≡ a.name → HasCause {T = ℕ} {E = Failed} a.faults b.faults (Ok n) → Carries a b [] (Ok tt)
 adds_sent a b n gained left named cause = record {
@@ -91,20 +85,6 @@ adds_sent a b n gained left named cause = record {
   };
   named = named;
   cause = record { later = cause.later; cause = tt };
-}
-
--- the sink takes nothing of what waits
-pub adds_refused : (a b : Outlet) (e : Failed) → 0 < length a.pending → b.held ≡ a.held → b.name ≡ a.name → HasCause {T = ℕ} {E = Failed} a.faults b.faults (Err e) → Carries a b [] (Err e)
-adds_refused a b e waits held named cause = record {
-  taken = record {
-    front = [];
-    back = a.pending;
-    proper = waits;
-    split = append-nil a.pending;
-    gained = held ∙ gained_nothing a.held;
-  };
-  named = named;
-  cause = record { later = cause.later; cause = cause.cause };
 }
 
 -- after one more part all parts so far are added
@@ -133,25 +113,35 @@ pub adds_failed : {a b : Outlet} {p : List ℕ} {e : Failed} (rest : List ℕ) (
 adds_failed rest (Err f) is h = let k = adds_before rest h in record { taken = k.taken; named = k.named; cause = record { later = k.cause.later; cause = k.cause.cause } }
 adds_failed rest (Ok u) is h = absurd (let no : ⊥ = cc is in no)
 
--- what is added when nothing waits before or after
-pub all_added : {a b : Outlet} {text : List ℕ} (result : Result Unit Failed) → a.pending ≡ [] → OnOk result (b.pending ≡ []) → Carries a b text result → IsAdded a.held b.held text result
-all_added {a} {text = text} (Ok u) nothing empty h =
+-- A sink in front of which nothing waits gained a text.
+pub record Whole (old new : Outlet) (text : List ℕ) (result : Result Unit Failed) : Type 0 where
+  pub added : IsAdded old.held new.held text result
+  pub named : new.name ≡ old.name
+  pub cause : HasCause old.faults new.faults result
+
+-- the same, as contracts say it
+pub gains : {K : Type 0} (k : sink.Ghosts K) (old new : K) (before after text : List ℕ) (result : Result Unit Failed)
+    → Whole (outlet k.held k.name k.faults old before) (outlet k.held k.name k.faults new after) text result → Gains k old new text result
+gains k old new before after text result h = record { added = h.added; named = h.named; cause = h.cause }
+
+held_whole : {a b : Outlet} {text : List ℕ} (result : Result Unit Failed) → a.pending ≡ [] → OnOk result (b.pending ≡ []) → Carries a b text result → IsAdded a.held b.held text result
+held_whole {a} {text = text} (Ok u) nothing empty h =
     let whole : text ≡ h.taken.sent = ap (λ w. w ++ text) (sym nothing) ∙ h.taken.split ∙ ap (λ w. h.taken.sent ++ w) empty ∙ append-nil h.taken.sent in
     h.taken.gained ∙ ap (λ w. appended a.held w) (sym whole)
-all_added {a} {b} {text = text} (Err e) nothing empty h = let P : List ℕ → Type 0 = λ w. IsCut a.held b.held (w ++ text) in subst P nothing h.taken
+held_whole {a} {b} {text = text} (Err e) nothing empty h = let P : List ℕ → Type 0 = λ w. IsCut a.held b.held (w ++ text) in subst P nothing h.taken
+
+-- what is added when nothing waits before or after
+pub all_added : {a b : Outlet} {text : List ℕ} (result : Result Unit Failed) → a.pending ≡ [] → OnOk result (b.pending ≡ []) → Carries a b text result → Whole a b text result
+all_added result nothing empty h = record { added = held_whole result nothing empty h; named = h.named; cause = h.cause }
 
 -- after the last bytes went to the sink
-pub all_flushed : {a b c : Outlet} {text whole : List ℕ} {u : Unit {0}} (result : Result Unit Failed) → a.pending ≡ [] → OnOk result (c.pending ≡ []) → Carries a b text (Ok u) → Carries b c [] result → whole ≡ text → IsAdded a.held c.held whole result
+pub all_flushed : {a b c : Outlet} {text whole : List ℕ} {u : Unit {0}} (result : Result Unit Failed) → a.pending ≡ [] → OnOk result (c.pending ≡ []) → Carries a b text (Ok u) → Carries b c [] result → whole ≡ text → Whole a c whole result
 all_flushed {a} {c = c} {text = text} result nothing empty h k w =
     let P : List ℕ → Type 0 = λ t. Carries a c t result in
     all_added result nothing empty (subst P (append-nil text ∙ sym w) (adds_then h k))
 
 -- where a part fails before that
-pub all_failed : {a b : Outlet} {part whole : List ℕ} {e : Failed} (rest : List ℕ) (result : Result Unit Failed) → IsErr result → a.pending ≡ [] → Carries a b part (Err e) → whole ≡ part ++ rest → IsAdded a.held b.held whole result
+pub all_failed : {a b : Outlet} {part whole : List ℕ} {e : Failed} (rest : List ℕ) (result : Result Unit Failed) → IsErr result → a.pending ≡ [] → Carries a b part (Err e) → whole ≡ part ++ rest → Whole a b whole result
 all_failed {a} {b} rest result is nothing h w =
     let P : List ℕ → Type 0 = λ t. Carries a b t result in
     all_added result nothing (IfOk-from_err result (λ _. b.pending ≡ []) is) (subst P (sym w) (adds_failed rest result is h))
-
--- an addition that is told in another way
-pub added_as : (old new : Known) {text whole : List ℕ} (result : Result Unit Failed) → whole ≡ text → IsAdded old new text result → IsAdded old new whole result
-added_as old new result e h = let P : List ℕ → Type 0 = λ t. IsAdded old new t result in subst P (sym e) h

@@ -4,8 +4,7 @@ ghost use Rattle.std.specs.Prelude.{◌≡◌, ◌≤◌, true, length};
 ghost use Rattle.cfj_model.specs.Print.{texts, class_text, printed, plain_printed};
 ghost use Rattle.cfj_model.specs.ProductLines.{IsPlain, is_class};
 ghost use Rattle.cfj_model.specs.Projection.{projected};
-ghost use Rattle.cide_io.specs.Faults.{HasCause};
-ghost use Rattle.cide_io.specs.Known.{IsAdded};
+ghost use Rattle.cide_io.specs.Changes.{Gains};
 ghost use Rattle.fj_printer.specs.Adds.{Adds};
 ghost use Rattle.fj_printer.specs.Shown.{names, shown_class_text, shown_classes};
 
@@ -23,9 +22,7 @@ use cide_io::{Failed, Sink};
 ///
 /// After a failure the sink holds a proper prefix of that form behind what it held. No memory is taken.
 pub fn print_project<K: Sink>(project: &Project, sink: &mut K) -> Result<(), Failed>
-    ensures text { IsAdded (K.held sink.old) (K.held sink.new) (printed project.now) result }
-    ensures named { K.name sink.new ≡ K.name sink.old }
-    ensures cause { HasCause (K.faults sink.old) (K.faults sink.new) result }
+    ensures { Gains K.Sink sink.old sink.new (printed project.now) result }
 {
     let model = project.model();
     let features = model.features.slice();
@@ -42,9 +39,7 @@ pub fn print_project<K: Sink>(project: &Project, sink: &mut K) -> Result<(), Fai
 /// After a failure the sink holds a proper prefix of that form behind what it held. No memory is taken.
 pub fn print_plain<K: Sink>(project: &Project, sink: &mut K) -> Result<(), Failed>
     requires { IsPlain project.now }
-    ensures text { IsAdded (K.held sink.old) (K.held sink.new) (plain_printed project.now.classes) result }
-    ensures named { K.name sink.new ≡ K.name sink.old }
-    ensures cause { HasCause (K.faults sink.old) (K.faults sink.new) result }
+    ensures { Gains K.Sink sink.old sink.new (plain_printed project.now.classes) result }
 {
     let showing = Showing::Marked(&[]);
     print_classes(project, &showing, sink)
@@ -60,9 +55,7 @@ pub fn print_variant<K: Sink>(
     sink: &mut K,
 ) -> Result<(), Failed>
     requires { selection.now.features ≡ length project.now.model.features }
-    ensures text { IsAdded (K.held sink.old) (K.held sink.new) (plain_printed (projected selection.now project.now).classes) result }
-    ensures named { K.name sink.new ≡ K.name sink.old }
-    ensures cause { HasCause (K.faults sink.old) (K.faults sink.new) result }
+    ensures { Gains K.Sink sink.old sink.new (plain_printed (projected selection.now project.now).classes) result }
 {
     let showing = Showing::Selected(selection);
     print_classes(project, &showing, sink)
@@ -74,9 +67,7 @@ pub fn print_variant<K: Sink>(
 pub fn print_class<K: Sink>(class: &Class, model: &FeatureModel, sink: &mut K) -> Result<(), Failed>
     requires few { length model.now.features ≤ 128 }
     requires known { is_class (length model.now.features) class.now ≡ true }
-    ensures text { IsAdded (K.held sink.old) (K.held sink.new) (class_text model.now.features class.now) result }
-    ensures named { K.name sink.new ≡ K.name sink.old }
-    ensures cause { HasCause (K.faults sink.old) (K.faults sink.new) result }
+    ensures { Gains K.Sink sink.old sink.new (class_text model.now.features class.now) result }
 {
     let mut buffer = Buffer::new();
     let showing = Showing::Marked(model.features.slice());
@@ -91,9 +82,8 @@ fn print_classes<K: Sink>(
     sink: &mut K,
 ) -> Result<(), Failed>
     requires { length (names showing.now) ≤ 128 }
-    ensures text { IsAdded (K.held sink.old) (K.held sink.new) (texts (shown_class_text showing.now) (shown_classes showing.now project.now.classes)) result }
-    ensures named { K.name sink.new ≡ K.name sink.old }
-    ensures cause { HasCause (K.faults sink.old) (K.faults sink.new) result }
+    ensures { Gains K.Sink sink.old sink.new
+        (texts (shown_class_text showing.now) (shown_classes showing.now project.now.classes)) result }
 {
     let mut buffer = Buffer::new();
     classes(&mut buffer, sink, showing, project)?;

@@ -58,12 +58,3 @@ knows_chains p i es e known q = go (lookup (λ k. bytes_eq q.now k.now) es) (kno
     go : (o : Option (List (Bor Class))) → MatchOption o (declared (take i p) q.now ≡ None) (IsChainOf p q.now) → option_map_or seen o [] ≡ chain p q.now
     go None h = sym (no_chain p q.now (sym (ap (λ n. declared (take n p) q.now) e ∙ ap (λ z. declared z q.now) (take-length p)) ∙ h))
     go (Some ks) h = h
-
--- what is found is found by what was asked
-pub chain_read : (p : Table) (es : List (Bor (List ℕ) × List (Bor Class))) (q : Bor (List ℕ)) (name : List ℕ) (ks : List (Bor Class)) → HasChains p es → q.now ≡ name
-    → lookup (λ k. bytes_eq q.now k.now) es ≡ Some ks → seen ks ≡ chain p name
-chain_read p es q name ks chains e found = sym (ap (λ o. option_map_or seen o []) found) ∙ chains q ∙ ap (chain p) e
-
-pub chain_missed : (p : Table) (es : List (Bor (List ℕ) × List (Bor Class))) (q : Bor (List ℕ)) (name : List ℕ) → HasChains p es → q.now ≡ name
-    → lookup (λ k. bytes_eq q.now k.now) es ≡ None → [] ≡ chain p name
-chain_missed p es q name chains e found = sym (ap (λ o. option_map_or seen o []) found) ∙ chains q ∙ ap (chain p) e

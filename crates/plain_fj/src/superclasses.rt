@@ -1,6 +1,6 @@
 //! The chain of superclasses above a name.
 
-ghost use Rattle.std.specs.Prelude.{◌≡◌, IfOk, if◌then◌else◌, is_some, Option, None};
+ghost use Rattle.std.specs.Prelude.{◌≡◌, [], IfOk, if◌then◌else◌, is_some, Option, None};
 ghost use Rattle.std.specs.Map.{lookup};
 ghost use Rattle.std.specs.Option.{option_copied};
 ghost use Rattle.std.specs.Str.{bytes_eq};
@@ -29,19 +29,20 @@ fn untaken<'a>(
     classes.declared(name)
 }
 
-/// A class, its superclass, and so on, up to an undeclared name or to a class that is taken already.
-pub fn chain<'a>(
+/// A class, its superclass, and so on, up to an undeclared name or to a class that is taken already. Each is taken.
+fn climb<'a>(
     alloc: Global,
     classes: &ClassMap<'a>,
+    taken: &mut IndexMap<&'a str, &'a Class>,
     name: &'a Name,
 ) -> Result<Vec<&'a Class>, AllocError>
+    requires { taken.now.entries ≡ [] }
     ensures { IfOk result (λ found. seen found.items ≡ spec.chain classes.now name.now) }
 {
-    let mut taken: IndexMap<&'a str, &'a Class> = IndexMap::new(alloc);
     let mut found: Vec<&'a Class> = Vec::new(alloc);
     let mut at = name;
     'up: for _step in 0..classes.len() {
-        match untaken(classes, &taken, at) {
+        match untaken(classes, taken, at) {
             None => return Ok(found),
             Some(class) => {
                 taken.insert(class.name.text(), class)?;
@@ -51,4 +52,16 @@ pub fn chain<'a>(
         }
     }
     Ok(found)
+}
+
+/// A class, its superclass, and so on, up to an undeclared name or to a class that stood before.
+pub fn chain<'a>(
+    alloc: Global,
+    classes: &ClassMap<'a>,
+    name: &'a Name,
+) -> Result<Vec<&'a Class>, AllocError>
+    ensures { IfOk result (λ found. seen found.items ≡ spec.chain classes.now name.now) }
+{
+    let mut taken: IndexMap<&'a str, &'a Class> = IndexMap::new(alloc);
+    climb(alloc, classes, &mut taken, name)
 }

@@ -1,12 +1,12 @@
 //! The rules at the nodes of an expression.
 
-ghost use Rattle.std.specs.Prelude.{◌≡◌, ◌++◌, IfOk, OnOk};
+ghost use Rattle.std.specs.Prelude.{◌≡◌, ◌++◌, OnOk};
 ghost use Rattle.plain_judge.specs.BodySites.{node_site};
-ghost use Rattle.plain_judge.specs.Pairs.{arg_pairs, node_pairs, pairs_at};
+ghost use Rattle.plain_judge.specs.Pairs.{arg_pairs, node_pairs};
 
 use crate::body::Body;
 use cfj_model::{Arg, Expr, Rule, Site};
-use std::alloc::{AllocError, Global};
+use std::alloc::AllocError;
 
 /// Adds the rules at the nodes of an expression. Among those of its root are the ones that the node round it judges there.
 #[cycle(nodes)]

@@ -61,10 +61,6 @@ pub found_law : (p : ProductLine) (place : ℕ) → IsProject p → (found : Opt
 found_law p place is None e n = tt
 found_law p place is (Some k) e n = place_law p place k is e n
 
--- each class of a numbered project is numbered
-pub numbered_at : (p : ProductLine) (place : ℕ) (k : Class) → IsNumbered p → slice_get p.classes place ≡ Some k → is_numbered_class k ≡ true
-numbered_at p place k n e = at_place is_numbered_class p.classes place k n e
-
 -- what a text stands for is numbered
 pub read_numbered : (text : List ℕ) (p : ProductLine) → IsTextOf projects text p → IsNumbered p
 read_numbered text p is = subst IsNumbered (sym is.valued) (value_numbered is.tree)

@@ -1,3 +1,5 @@
+//! Which clauses a log may have.
+
 ghost use Rattle.std.specs.Prelude.{◌≡◌, ◌↔◌, ◌++◌, map, length, All, IsTrue, IfOk, IfSome, IfNone};
 ghost use Rattle.std.specs.List.{list_any};
 ghost use Rattle.cfj_logic.specs.Sides.{is_within, is_empty};

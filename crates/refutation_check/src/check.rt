@@ -1,3 +1,5 @@
+//! Checking refutations, and proofs that a selection is the least.
+
 ghost use Rattle.std.specs.Prelude.{◌≡◌, ◌↔◌, ◌++◌, ◌∷◌, [], false, map, ◌≤◌, ◌<◌, length, All, IsTrue, IfOk};
 ghost use Rattle.cfj_logic.specs.Selections.{choices as choices_of};
 ghost use Rattle.cfj_logic.specs.UnitClauses.{Leads};

@@ -1,3 +1,5 @@
+//! The law of logs.
+
 ghost use Rattle.std.specs.Prelude.{ℕ, List};
 ghost use Rattle.cfj_logic.specs.declared.clauses.Literal.{Literal as SignedVariable};
 ghost use Rattle.cfj_logic.specs.Logs.{Assignment, IsModel, IsTrueIn, Follows};

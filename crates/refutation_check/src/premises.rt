@@ -1,3 +1,5 @@
+//! Clauses over features as literals, and the values to begin with.
+
 ghost use Rattle.std.specs.Prelude.{◌≡◌, ◌<◌, ◌≤◌, [], ◌∷◌, ◌++◌, length, map, slice_get, slice_set, Some, IfOk};
 ghost use Rattle.cfj_logic.specs.UnitClauses.{with_false};
 ghost use Rattle.cfj_logic.specs.Selections.{choices};

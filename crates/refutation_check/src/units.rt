@@ -1,3 +1,5 @@
+//! Going through clauses for those that have one literal left.
+
 ghost use Rattle.std.specs.Prelude.{◌≡◌, ◌<◌, ◌++◌, ◌↔◌, length, All, IsTrue};
 ghost use Rattle.cfj_logic.specs.UnitClauses.{with_true, Reaches, Leads};
 ghost use Rattle.cfj_logic.specs.Logs.{AreBelow};

@@ -1,3 +1,5 @@
+//! The answers of a search.
+
 use cfj_logic::{Log, Selection};
 
 /// What a search for a model has come to, with the clauses that it learned.

@@ -1,3 +1,5 @@
+//! Clauses that deny the first features' values.
+
 ghost use Rattle.std.specs.Prelude.{◌≡◌, ◌≤◌, ◌<◌, ℕ, length, true, bit_and};
 ghost use Rattle.cfj_logic.specs.Selections.{choices};
 ghost use Rattle.cfj_logic.specs.Sides.{is_over};

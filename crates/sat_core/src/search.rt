@@ -1,3 +1,5 @@
+//! The search for the least selection.
+
 ghost use Rattle.std.specs.Prelude.{◌≡◌, ◌↔◌, ◌≤◌, ◌<◌, ◌+◌, ◌++◌, ◌∷◌, [], ℕ, true, length, All, IsTrue, IfOk, OnOk};
 ghost use Rattle.cfj_logic.specs.Sides.{Sides, empty_clause};
 ghost use Rattle.cfj_words.specs.Lists.{Has};

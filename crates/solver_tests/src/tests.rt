@@ -1,3 +1,5 @@
+//! Circuits, logs and the solver against plain evaluation and plain search.
+
 ghost use Rattle.std.specs.Prelude.{◌≡◌, ◌≤◌, IfOk, IfSome};
 ghost use Rattle.cfj_logic.specs.Formulas as spec;
 ghost use Rattle.solver_tests.specs.Questions.{IsQuestion};

@@ -1,5 +1,6 @@
-ghost use Rattle.std.specs.Prelude.{◌≡◌, ◌≤◌, length, Err};
-ghost use Rattle.cide_io.specs.Faults.{Rose};
+//! The print of a valid selection's variant.
+ghost use Rattle.std.specs.Prelude.{◌≡◌, length};
+ghost use Rattle.cide_io.specs.Changes.{Gains};
 ghost use Rattle.variant_export.specs.Exports.{IsExport};
 
 use cfj_model::{Project, Selection};
@@ -27,10 +28,7 @@ pub fn export<K: Sink>(
     sink: &mut K,
 ) -> Result<(), ExportFault>
     requires { selection.now.features ≡ length project.now.model.features }
-    ensures text { IsExport project.now selection.now (K.held sink.old) (K.held sink.new) result }
-    ensures cause { result ≡ Err ExportFault.WriteFault → Rose (K.faults sink.old) (K.faults sink.new) }
-    ensures named { K.name sink.new ≡ K.name sink.old }
-    ensures later { K.faults sink.old ≤ K.faults sink.new }
+    ensures { IsExport project.now selection.now (Gains K.Sink sink.old sink.new) result }
 {
     if let Err(Failing(at)) = valid(project.model(), selection) {
         return Err(ExportFault::InvalidSelection(at));

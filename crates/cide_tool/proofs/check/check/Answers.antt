@@ -1,6 +1,14 @@
-use Rattle.cide_tool.proofs.OfInput.{check_of_input}
+use Rattle.std.proofs.Common.{refl}
+use Rattle.cide_io.proofs.Gaining.{gains_nothing}
+use Rattle.command_words.specs.Asked.{Asked}
+use Rattle.cide_tool.proofs.Runs.{answer_as, no_fault, passed_on}
 use Rattle.cide_tool.proofs.check.check.Goals as goal
 
-pub returns-in-Ok-clause-text : goal.returns-in-Ok-clause-text
-returns-in-Ok-clause-text g c =
-    check_of_input (g.R.Room.input c.args.room.now c.args.name.now) c.as_slice.result.now (rw c.as_slice.ensures.value c.in-Ok.ensures.text.0) _ _ _ _ c.check_text.ensures.text
+pub returns-in_err-project-clause-answer : goal.returns-in_err-project-clause-answer
+returns-in_err-project-clause-answer g c =
+    passed_on _ _ _ _ c.from_residual.result c.in_err-project.field-0.0 c.from_residual.ensures.1 (gains_nothing g.O.Sink c.args.out.now)
+    (c.in_err-project.ensures.refused (Asked.check c.args.name.now c.args.budget) refl)
+
+pub returns-clause-answer : goal.returns-clause-answer
+returns-clause-answer g c =
+    answer_as _ _ _ _ _ c.check_project.result no_fault (c.check_project.ensures (g.R.Room.input c.args.room.now) c.args.name.now c.in_ok-project.ensures.read)

@@ -1,7 +1,10 @@
-use Rattle.std.proofs.Common.{◌∙◌, sym}
-use Rattle.cide_tool.proofs.Refusals.{refusal_told}
+use Rattle.cide_io.proofs.Gaining.{given_nothing}
+use Rattle.cide_tool.proofs.Runs.{said_nothing, said_line}
 use Rattle.cide_tool.proofs.running.run_plain.Goals as goal
 
-pub returns-clause-refused : goal.returns-clause-refused
-returns-clause-refused g c =
-    λ three. refusal_told _ _ _ _ c.work-outcome.result _ _ _ _ c.work-outcome.ensures.text (sym c.status.ensures ∙ three) c.report.ensures.said
+pub returns-in-Ok-clause-answer : goal.returns-in-Ok-clause-answer
+returns-in-Ok-clause-answer g c = said_nothing _ (given_nothing g.E.Sink c.args.err.now) c.in-Ok.ensures.answer
+
+pub returns-in-Err-clause-answer : goal.returns-in-Err-clause-answer
+returns-in-Err-clause-answer g c =
+    said_line c.in-Err.refusal _ _ c.status.ensures c.line.ensures c.say.ensures c.in-Err.ensures.answer

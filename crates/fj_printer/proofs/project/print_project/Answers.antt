@@ -6,7 +6,7 @@ use Rattle.cfj_model.specs.declared.feature_model.FeatureModel.{FeatureModel}
 use Rattle.cfj_logic.specs.declared.formula.Formula.{Formula}
 use Rattle.cfj_model.specs.Print.{texts, constraint_text, class_text, features_text, printed}
 use Rattle.cfj_model.specs.ProductLines.{ProductLine}
-use Rattle.fj_printer.proofs.Composing.{adds_then, all_flushed, all_failed}
+use Rattle.fj_printer.proofs.Composing.{adds_then, all_flushed, all_failed, gains}
 use Rattle.fj_printer.proofs.Parts.{all_classes}
 use Rattle.fj_printer.proofs.project.print_project.Goals as goal
 
@@ -21,29 +21,29 @@ printed_is line model features constraints m f k =
     ∙ ap (λ ks. features_text features ++ (texts (constraint_text features) ks ++ texts (class_text features) line.classes)) (sym k)
     ∙ ap (λ w. features_text features ++ (texts (constraint_text features) constraints ++ w)) (all_classes features line.classes)
 
-pub returns-in_err-feature_line-clause-text : goal.returns-in_err-feature_line-clause-text
-returns-in_err-feature_line-clause-text g c =
-    all_failed _ c.from_residual.result c.from_residual.ensures.0 c.new-buffer.ensures c.in_err-feature_line.ensures
-    (printed_is c.args.project.now c.model-model.result.now c.slice-features.result.now _ c.model-model.ensures.model c.slice-features.ensures refl)
+pub returns-in_err-feature_line : goal.returns-in_err-feature_line
+returns-in_err-feature_line g c =
+    gains g.K.Sink _ _ _ _ _ _ (all_failed _ c.from_residual.result c.from_residual.ensures.0 c.new-buffer.ensures c.in_err-feature_line.ensures
+    (printed_is c.args.project.now c.model-model.result.now c.slice-features.result.now _ c.model-model.ensures.model c.slice-features.ensures refl))
 
-pub returns-in_err-constraint_lines-clause-text : goal.returns-in_err-constraint_lines-clause-text
-returns-in_err-constraint_lines-clause-text g c =
+pub returns-in_err-constraint_lines : goal.returns-in_err-constraint_lines
+returns-in_err-constraint_lines g c =
     let features = c.slice-features.result.now in
     let is = printed_is c.args.project.now c.model-model.result.now c.slice-features.result.now c.slice.result.now c.model-model.ensures.model c.slice-features.ensures c.slice.ensures in
-    all_failed _ c.from_residual-in_err-constraint_lines.result c.from_residual-in_err-constraint_lines.ensures.0 c.new-buffer.ensures
+    gains g.K.Sink _ _ _ _ _ _ (all_failed _ c.from_residual-in_err-constraint_lines.result c.from_residual-in_err-constraint_lines.ensures.0 c.new-buffer.ensures
     (adds_then c.in_ok-feature_line.ensures c.in_err-constraint_lines.ensures)
-    (is ∙ sym (append_assoc (features_text features) (texts (constraint_text features) c.slice.result.now) (shown_text features c.args.project.now.classes)))
+    (is ∙ sym (append_assoc (features_text features) (texts (constraint_text features) c.slice.result.now) (shown_text features c.args.project.now.classes))))
 
-pub returns-in_err-classes-clause-text : goal.returns-in_err-classes-clause-text
-returns-in_err-classes-clause-text g c =
+pub returns-in_err-classes : goal.returns-in_err-classes
+returns-in_err-classes g c =
     let is = printed_is c.args.project.now c.model-model.result.now c.slice-features.result.now c.slice.result.now c.model-model.ensures.model c.slice-features.ensures c.slice.ensures in
-    all_failed _ c.from_residual-in_err-classes.result c.from_residual-in_err-classes.ensures.0 c.new-buffer.ensures
+    gains g.K.Sink _ _ _ _ _ _ (all_failed _ c.from_residual-in_err-classes.result c.from_residual-in_err-classes.ensures.0 c.new-buffer.ensures
     (adds_then c.in_ok-feature_line.ensures (adds_then c.in_ok-constraint_lines.ensures c.in_err-classes.ensures))
-    (is ∙ sym (append-nil _))
+    (is ∙ sym (append-nil _)))
 
-pub returns-clause-text : goal.returns-clause-text
-returns-clause-text g c =
-    all_flushed c.flush.result c.new-buffer.ensures c.flush.ensures.empty
+pub returns : goal.returns
+returns g c =
+    gains g.K.Sink _ _ _ _ _ _ (all_flushed c.flush.result c.new-buffer.ensures c.flush.ensures.empty
     (adds_then c.in_ok-feature_line.ensures (adds_then c.in_ok-constraint_lines.ensures c.in_ok-classes.ensures))
     c.flush.ensures.adds
-    (printed_is c.args.project.now c.model-model.result.now c.slice-features.result.now c.slice.result.now c.model-model.ensures.model c.slice-features.ensures c.slice.ensures)
+    (printed_is c.args.project.now c.model-model.result.now c.slice-features.result.now c.slice.result.now c.model-model.ensures.model c.slice-features.ensures c.slice.ensures))

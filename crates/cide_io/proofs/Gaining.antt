@@ -1,5 +1,5 @@
 -- What a sink gains that is given nothing, or a text that is told in another way.
-use Rattle.std.proofs.Common.{◌≡◌, ℕ, List, [], ◌++◌, Some, None, Result, Ok, refl, sym, ap, subst, append-nil, arith}
+use Rattle.std.proofs.Common.{◌≡◌, ℕ, List, [], Some, None, Result, Ok, refl, sym, ap, subst, append-nil, arith}
 use Rattle.cide_io.specs.declared.faults.Failed.{Failed}
 use Rattle.cide_io.specs.declared.sinks.Sink as sink
 use Rattle.cide_io.specs.Changes.{Gains, IsGiven}

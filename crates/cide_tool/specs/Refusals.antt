@@ -1,6 +1,6 @@
 -- No public contract cites this: it serves the proofs.
 -- What a command answers, as the end that it comes to.
-use Rattle.std.specs.Prelude.{Vec, ◌≡◌, ℕ, ◌≤◌, List, [], Option, Result, Ok, Err}
+use Rattle.std.specs.Prelude.{Vec, ◌≡◌, ℕ, List, [], Option, Result, Ok, Err}
 use Rattle.std.specs.String.{string_bytes}
 use Rattle.std.specs.declared.alloc.Global.{Global}
 use Rattle.cide_io.specs.declared.faults.Failed.{Failed}

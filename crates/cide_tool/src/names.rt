@@ -3,7 +3,7 @@ ghost use Rattle.std.specs.Prelude.{◌≡◌, ℕ, ◌≤◌, List, ◌∷◌, 
 ghost use Rattle.std.specs.List.{list_all};
 ghost use Rattle.cfj_words.specs.Names.{is_among, is_short_identifier};
 ghost use Rattle.cfj_model.specs.ProductLines.{are_distinct};
-ghost use Rattle.feature_model.specs.NamedSelections.{AreDistinctFeatures, IsSpelled, IsFirstBad};
+ghost use Rattle.feature_model.specs.NamedSelections.{IsSpelled, IsFirstBad};
 
 use cfj_model::{FeatureModel, Name, Selection};
 use feature_model::{NameFault, read_selection};

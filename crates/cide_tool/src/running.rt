@@ -1,5 +1,5 @@
 //! A run, from its words to its status.
-ghost use Rattle.std.specs.Prelude.{◌≡◌, map, string_bytes};
+ghost use Rattle.std.specs.Prelude.{map, string_bytes};
 ghost use Rattle.cide_io.specs.Faults.{Rose};
 ghost use Rattle.cide_io.specs.Changes.{Gains, IsGiven, OnlyReads};
 ghost use Rattle.command_words.specs.Asked.{asked};

@@ -1,5 +1,7 @@
 //! What a case wants, and what comes of it.
 
+ghost use Rattle.std.specs.Prelude.{◌≡◌, [], ◌∷◌, ◌++◌, IfOk};
+
 use crate::content::Content;
 use crate::fault::CaseFault;
 use crate::section::Case;
@@ -27,7 +29,11 @@ impl Answer {
     }
 
     /// A line on the standard output, with status 0.
-    pub fn line(alloc: Global, line: &str) -> Result<Answer, AllocError> {
+    pub fn line(alloc: Global, line: &str) -> Result<Answer, AllocError>
+        ensures status { IfOk result (λ answer. answer.status ≡ 0) }
+        ensures out { IfOk result (λ answer. answer.out.items ≡ line.now ++ 10 ∷ []) }
+        ensures err { IfOk result (λ answer. answer.err.items ≡ []) }
+    {
         Ok(Answer {
             status: 0,
             out: ended(alloc, line)?,
@@ -36,7 +42,11 @@ impl Answer {
     }
 
     /// A line on the standard error, with status 3.
-    pub fn refusal(alloc: Global, line: &str) -> Result<Answer, AllocError> {
+    pub fn refusal(alloc: Global, line: &str) -> Result<Answer, AllocError>
+        ensures status { IfOk result (λ answer. answer.status ≡ 3) }
+        ensures out { IfOk result (λ answer. answer.out.items ≡ []) }
+        ensures err { IfOk result (λ answer. answer.err.items ≡ line.now ++ 10 ∷ []) }
+    {
         Ok(Answer {
             status: 3,
             out: Vec::new(alloc),
@@ -46,7 +56,9 @@ impl Answer {
 }
 
 /// A line with its end.
-fn ended(alloc: Global, line: &str) -> Result<Vec<u8>, AllocError> {
+fn ended(alloc: Global, line: &str) -> Result<Vec<u8>, AllocError>
+    ensures { IfOk result (λ bytes. bytes.items ≡ line.now ++ 10 ∷ []) }
+{
     let mut bytes = Vec::from_slice(alloc, line.as_bytes())?;
     bytes.push(b'\n')?;
     Ok(bytes)

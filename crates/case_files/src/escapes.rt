@@ -1,5 +1,7 @@
 //! Escapes, a byte at a time.
 
+ghost use Rattle.std.specs.Prelude.{◌<◌, IfSome};
+
 use crate::content::Content;
 use std::alloc::AllocError;
 
@@ -17,7 +19,9 @@ pub enum Escape {
 }
 
 /// The value of a hexadecimal digit.
-fn digit_of(byte: u8) -> Option<u8> {
+fn digit_of(byte: u8) -> Option<u8>
+    ensures { IfSome result (λ digit. digit < 16) }
+{
     match byte {
         b'0'..=b'9' => Some(byte - b'0'),
         b'a'..=b'f' => Some(byte - b'a' + 10),

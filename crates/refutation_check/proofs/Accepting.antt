@@ -1,5 +1,5 @@
 -- Logs that are accepted.
-use Rattle.std.proofs.Common.{◌≡◌, ℕ, ◌+◌, ◌^◌, ◌<◌, ◌≤◌, ◌⊎◌, inl, inr, Bool, true, false, ◌==◌, nat_lt, List, [], ◌∷◌, ◌++◌, length, get_or, take, map, Some, slice_get, refl, sym, ◌∙◌, ap, subst, arith, length-append, bit_and}
+use Rattle.std.proofs.Common.{◌≡◌, ℕ, ◌+◌, ◌^◌, ◌<◌, ◌≤◌, ◌⊎◌, inl, inr, Bool, true, false, ◌==◌, nat_lt, List, [], ◌∷◌, ◌++◌, length, get_or, take, map, Some, slice_get, refl, sym, ◌∙◌, ap, subst, arith, length-append, append_assoc, append-nil, bit_and}
 use Rattle.std.specs.Prelude.{All}
 use Rattle.std.specs.List.{list_any}
 use Rattle.std.proofs.lemmas.Bool.{ltb-true}
@@ -13,9 +13,9 @@ use Rattle.cfj_logic.specs.Selections.{has_bit}
 use Rattle.cfj_logic.specs.Sides.{Sides, is_over, is_within}
 use Rattle.cfj_words.specs.Lists.{Has}
 use Rattle.cfj_logic.specs.Logs.{AreBelow, AreWellFormed, literals, premises, Follows, IsEntry, IsAccepted}
-use Rattle.refutation_check.proofs.Members.{lt_or_ge, all_from, has_source, any_has, none_has, slice_get_left, slice_get_end, both_true}
+use Rattle.unit_propagation.proofs.Members.{lt_or_ge, all_has, all_from, has_split, has_source, any_has, none_has, slice_get_left, slice_get_end, both_true}
 use Rattle.refutation_check.proofs.ClauseLiterals.{side, literals_has}
-use Rattle.refutation_check.proofs.Passes.{take_next}
+use Rattle.unit_propagation.proofs.Passes.{take_next}
 
 -- ---- literals of clauses over features
 
@@ -38,19 +38,19 @@ over_below features vars c le over = all_from (λ l. l.var < vars) (literals c) 
 
 -- ---- entries
 
-pub entry_of : (clauses : Clauses) (before : List Sides) (learned : List (List Literal)) (c : Sides) (list : List Literal) → learned ≡ map literals before → list ≡ literals c →
-    is_over clauses.features c ≡ true → bit_and c.on c.off ≡ 0 → list_any (λ d. is_within d c) before ≡ false → Follows clauses.vars (clauses.list ++ learned) list → IsEntry clauses before c
-entry_of clauses before learned c list learned_is list_is over once known follows = record {
+pub entry_of : (clauses : Clauses) (before : List Sides) (ps : List (List Literal)) (c : Sides) (list : List Literal) → ps ≡ premises clauses before → list ≡ literals c →
+    is_over clauses.features c ≡ true → bit_and c.on c.off ≡ 0 → list_any (λ d. is_within d c) before ≡ false → Follows clauses.vars ps list → IsEntry clauses before c
+entry_of clauses before ps c list ps_is list_is over once known follows = record {
   over = over;
   once = once;
-  follows = subst (Follows clauses.vars (premises clauses before)) list_is (subst (λ w. Follows clauses.vars (clauses.list ++ w) list) learned_is follows);
+  follows = subst (Follows clauses.vars (premises clauses before)) list_is (subst (λ w. Follows clauses.vars w list) ps_is follows);
   new = λ d h. none_has (λ e. is_within e c) before d known h;
 }
 
-pub entry_follows : (clauses : Clauses) (before : List Sides) (learned : List (List Literal)) (c : Sides) (list : List Literal) → learned ≡ map literals before → list ≡ literals c →
-    IsEntry clauses before c → Follows clauses.vars (clauses.list ++ learned) list
-entry_follows clauses before learned c list learned_is list_is e =
-    subst (λ w. Follows clauses.vars (clauses.list ++ w) list) (sym learned_is) (subst (Follows clauses.vars (premises clauses before)) (sym list_is) e.follows)
+pub entry_follows : (clauses : Clauses) (before : List Sides) (ps : List (List Literal)) (c : Sides) (list : List Literal) → ps ≡ premises clauses before → list ≡ literals c →
+    IsEntry clauses before c → Follows clauses.vars ps list
+entry_follows clauses before ps c list ps_is list_is e =
+    subst (λ w. Follows clauses.vars w list) (sym ps_is) (subst (Follows clauses.vars (premises clauses before)) (sym list_is) e.follows)
 
 pub known_not_entry : (clauses : Clauses) (before : List Sides) (c : Sides) → list_any (λ d. is_within d c) before ≡ true → IsEntry clauses before c → ⊥
 known_not_entry clauses before c known e =
@@ -84,10 +84,18 @@ accepted_push clauses log c all entry k d is = go (lt_or_ge k (length log))
 pub accepted_next : (clauses : Clauses) (log : List Sides) (i : ℕ) (x : Sides) → i < length log → x ≡ get_or log i x → IsAccepted clauses (take i log) → IsEntry clauses (take i log) x → IsAccepted clauses (take (i + 1) log)
 accepted_next clauses log i x lt is all entry = subst (IsAccepted clauses) (sym (take_next log i x lt is)) (accepted_push clauses (take i log) x all entry)
 
-pub learned_next : (log : List Sides) (i : ℕ) (x : Sides) (learned new : List (List Literal)) (list : List Literal) → i < length log → x ≡ get_or log i x → learned ≡ map literals (take i log) → list ≡ literals x → new ≡ learned ++ list ∷ [] →
-    new ≡ map literals (take (i + 1) log)
-learned_next log i x learned new list lt is so_far list_is pushed =
-    pushed ∙ ap (λ w. w ++ list ∷ []) so_far ∙ ap (λ w. map literals (take i log) ++ w ∷ []) list_is ∙ sym (map-append literals (take i log) (x ∷ [])) ∙ ap (map literals) (sym (take_next log i x lt is))
+-- a logged clause joins the premises
+pub premises_push : (clauses : Clauses) (log : List Sides) (c : Sides) → premises clauses (log ++ c ∷ []) ≡ premises clauses log ++ literals c ∷ []
+premises_push clauses log c = ap (λ w. clauses.list ++ w) (map-append literals log (c ∷ [])) ∙ sym (append_assoc clauses.list (map literals log) (literals c ∷ []))
+
+pub premises_next : (clauses : Clauses) (log : List Sides) (i : ℕ) (x : Sides) (old new : List (List Literal)) (list : List Literal) → i < length log → x ≡ get_or log i x → old ≡ premises clauses (take i log) → list ≡ literals x →
+    new ≡ old ++ list ∷ [] → new ≡ premises clauses (take (i + 1) log)
+premises_next clauses log i x old new list lt is so_far list_is pushed =
+    pushed ∙ ap (λ w. w ++ list ∷ []) so_far ∙ ap (λ w. premises clauses (take i log) ++ w ∷ []) list_is ∙ sym (premises_push clauses (take i log) x)
+    ∙ ap (premises clauses) (sym (take_next log i x lt is))
+
+pub premises_none : (clauses : Clauses) → clauses.list ≡ premises clauses []
+premises_none clauses = sym (append-nil clauses.list)
 
 pub accepted_at : (clauses : Clauses) (log : List Sides) (i : ℕ) (x : Sides) → i < length log → x ≡ get_or log i x → IsAccepted clauses log → IsEntry clauses (take i log) x
 accepted_at clauses log i x lt is all = all i x (slice_get_read log (length log) i x refl lt is)
@@ -97,3 +105,13 @@ accepted_below clauses log formed all = all_from (AreBelow clauses.vars) (map li
   where
     each : (list : List Literal) → (c : Sides) × Has log c × (literals c ≡ list) → AreBelow clauses.vars list
     each list r = subst (AreBelow clauses.vars) r.2 (over_below clauses.features clauses.vars r.0 formed.features (all r.1.0 r.0 r.1.1).over)
+
+pub premises_below : (clauses : Clauses) (log : List Sides) → AreWellFormed clauses → IsAccepted clauses log → All (AreBelow clauses.vars) (premises clauses log)
+premises_below clauses log formed all = all_from (AreBelow clauses.vars) (premises clauses log) (λ c h. each c (has_split clauses.list (map literals log) c h))
+  where
+    each : (c : List Literal) → Has clauses.list c ⊎ Has (map literals log) c → AreBelow clauses.vars c
+    each c (inl h) = all_has (AreBelow clauses.vars) clauses.list c formed.literals h
+    each c (inr h) = all_has (AreBelow clauses.vars) (map literals log) c (accepted_below clauses log formed all) h
+
+pub below_as : (clauses : Clauses) (log : List Sides) (ps : List (List Literal)) → AreWellFormed clauses → IsAccepted clauses log → ps ≡ premises clauses log → All (AreBelow clauses.vars) ps
+below_as clauses log ps formed all is = subst (All (AreBelow clauses.vars)) (sym is) (premises_below clauses log formed all)

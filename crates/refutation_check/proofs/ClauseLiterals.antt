@@ -5,7 +5,7 @@ use Rattle.cfj_logic.specs.Selections.{has_bit}
 use Rattle.cfj_logic.specs.Sides.{Sides}
 use Rattle.cfj_words.specs.Lists.{Has}
 use Rattle.cfj_logic.specs.Logs.{literal_if, literals_from, literals}
-use Rattle.refutation_check.proofs.Members.{has_left, has_right, has_split, has_none, has_one}
+use Rattle.unit_propagation.proofs.Members.{has_left, has_right, has_split, has_none, has_one}
 use Rattle.std.proofs.lemmas.Bool.Decides.{eqb_tells}
 
 literals_step : (c : Sides) (f : ℕ) → f < 128 → literals_from c (128 - f) f ≡ literal_if (has_bit c.on f) f true ++ (literal_if (has_bit c.off f) f false ++ literals_from c (128 - (f + 1)) (f + 1))

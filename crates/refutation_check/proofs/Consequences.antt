@@ -5,8 +5,8 @@ use Rattle.cfj_logic.specs.declared.clauses.Literal.{Literal}
 use Rattle.cfj_words.specs.Lists.{Has}
 use Rattle.cfj_logic.specs.UnitClauses.{Values, value_of, IsFalse, with_true, with_false, IsUnit, Reaches, here, by_unit, Leads}
 use Rattle.cfj_logic.specs.Logs.{Assignment, IsTrueIn, IsModel, assumed_from, assumed, Follows}
-use Rattle.refutation_check.proofs.Members.{has_none}
-use Rattle.refutation_check.proofs.UnitSteps.{set_cases, not_itself, value_cases, leads_here}
+use Rattle.unit_propagation.proofs.Members.{has_none}
+use Rattle.unit_propagation.proofs.UnitSteps.{set_cases, not_itself, value_cases, leads_here}
 
 -- the assignment has these values
 abbrev pub Agrees : Assignment → Values → Type 0
@@ -59,7 +59,7 @@ agrees_assumed : (v : Assignment) (c : List Literal) (vs : Values) → IsFalseIn
 agrees_assumed v [] vs f a = a
 agrees_assumed v (l ∷ c) vs f a = agrees_assumed v c (with_false vs l) (λ m h. f m (suc h.0, h.1)) (agrees_with v vs l.var (not l.on) (f l (0, refl)) a)
 
-true_or_false : (v : Assignment) (c : List Literal) → IsTrueIn v c ⊎ IsFalseIn v c
+pub true_or_false : (v : Assignment) (c : List Literal) → IsTrueIn v c ⊎ IsFalseIn v c
 true_or_false v [] = inr (λ l h. absurd (has_none l h))
 true_or_false v (l ∷ c) = go (value_cases (v l.var) l.on) (true_or_false v c)
   where

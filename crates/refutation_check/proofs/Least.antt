@@ -11,8 +11,8 @@ use Rattle.cfj_logic.specs.Sides.{Sides, empty_clause, is_empty}
 use Rattle.cfj_words.specs.Lists.{Has}
 use Rattle.cfj_logic.specs.UnitClauses.{Values, value_of, Leads}
 use Rattle.cfj_logic.specs.Logs.{Assignment, AreWellFormed, ExtendsToModel, literals, premises, fixed, IsAccepted, IsRefutation, AreForced, Completes, AreSettledByFeatures, IsProofOfLeast}
-use Rattle.refutation_check.proofs.Members.{any_has, has_any, both_true}
-use Rattle.refutation_check.proofs.UnitSteps.{reaches_within}
+use Rattle.unit_propagation.proofs.Members.{any_has, has_any, both_true}
+use Rattle.unit_propagation.proofs.UnitSteps.{reaches_within}
 use Rattle.refutation_check.proofs.Consequences.{Agrees, sound}
 use Rattle.refutation_check.proofs.FirstValues.{fixed_at, choices_from_at, choices_from_length}
 
@@ -78,38 +78,24 @@ settled_extends clauses s formed settled same clear = go (settled s same)
             let e : Some (k.values f) ≡ Some (is_on s f) = sym (k.all f f_vars) ∙ last in
             cc e
 
-pub no_learned : (cs : List (List Literal)) (vs : Values) → Leads (cs ++ []) vs → Leads cs vs
-no_learned cs vs leads = subst (λ w. Leads w vs) (append-nil cs) leads
-
-pub with_none : (cs : List (List Literal)) (vs : Values) → Leads cs vs → Leads (cs ++ []) vs
-with_none cs vs leads = subst (λ w. Leads w vs) (sym (append-nil cs)) leads
-
 -- ---- answers
-
-pub where_some : {A : Type 0} (P : A → Type 0) (R : Type 0) (o : Option A) → IfSome o (λ x. P x × R) → is_some o ≡ true → R
-where_some P R None h e = absurd (let bad : ⊥ = cc e in bad)
-where_some P R (Some x) h e = h.1
-
-pub some_where : {A : Type 0} (R : Type 0) (o : Option A) → IfNone o (R → ⊥) → R → is_some o ≡ true
-some_where R None h r = absurd (h r)
-some_where R (Some x) h r = refl
 
 pub same_answer : {E : Type 0} (r : Result Bool E) (X Y : Type 0) → (X → Y) → (Y → X) → IfOk r (λ b. (IsTrue b → X) × (X → IsTrue b)) → IfOk r (λ b. (IsTrue b → Y) × (Y → IsTrue b))
 same_answer (Ok b) X Y f g h = (λ t. f (h.0 t), λ y. h.1 (g y))
 same_answer (Err e) X Y f g h = h
 
-pub proof_of_least : (clauses : Clauses) (log read : List Sides) (s : Chosen) (learned : List (List Literal)) (p : List Bool) → read ≡ log → learned ≡ map literals read → p ≡ choices s → IsAccepted clauses read → ExtendsToModel clauses s →
-    AreForced clauses.vars (clauses.list ++ learned) p → IsProofOfLeast clauses log s
-proof_of_least clauses log read s learned p log_is learned_is p_is all extends forced =
-    let over : AreForced clauses.vars (premises clauses log) p = subst (λ w. AreForced clauses.vars (clauses.list ++ w) p) (learned_is ∙ ap (map literals) log_is) forced in
+pub proof_of_least : (clauses : Clauses) (log read : List Sides) (s : Chosen) (ps : List (List Literal)) (p : List Bool) → read ≡ log → ps ≡ premises clauses read → p ≡ choices s → IsAccepted clauses read → ExtendsToModel clauses s →
+    AreForced clauses.vars ps p → IsProofOfLeast clauses log s
+proof_of_least clauses log read s ps p log_is ps_is p_is all extends forced =
+    let over : AreForced clauses.vars (premises clauses log) p = subst (λ w. AreForced clauses.vars w p) (ps_is ∙ ap (premises clauses) log_is) forced in
     record {
       accepted = subst (IsAccepted clauses) log_is all;
       extends = extends;
       forced = subst (AreForced clauses.vars (premises clauses log)) p_is over;
     }
 
-pub proof_forced : (clauses : Clauses) (log read : List Sides) (s : Chosen) (learned : List (List Literal)) (p : List Bool) → read ≡ log → learned ≡ map literals read → p ≡ choices s → IsProofOfLeast clauses log s →
-    AreForced clauses.vars (clauses.list ++ learned) p
-proof_forced clauses log read s learned p log_is learned_is p_is proof =
-    subst (AreForced clauses.vars (clauses.list ++ learned)) (sym p_is)
-    (subst (λ w. AreForced clauses.vars (clauses.list ++ w) (choices s)) (sym (learned_is ∙ ap (map literals) log_is)) proof.forced)
+pub proof_forced : (clauses : Clauses) (log read : List Sides) (s : Chosen) (ps : List (List Literal)) (p : List Bool) → read ≡ log → ps ≡ premises clauses read → p ≡ choices s → IsProofOfLeast clauses log s →
+    AreForced clauses.vars ps p
+proof_forced clauses log read s ps p log_is ps_is p_is proof =
+    subst (AreForced clauses.vars ps) (sym p_is)
+    (subst (λ w. AreForced clauses.vars w (choices s)) (sym (ps_is ∙ ap (premises clauses) log_is)) proof.forced)

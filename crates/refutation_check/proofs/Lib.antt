@@ -3,7 +3,3 @@ pub mod ClauseLiterals
 pub mod Consequences
 pub mod FirstValues
 pub mod Least
-pub mod Members
-pub mod Passes
-pub mod Standing
-pub mod UnitSteps

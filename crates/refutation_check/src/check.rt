@@ -1,16 +1,15 @@
 //! Checking refutations, and proofs that a selection is the least.
 
-ghost use Rattle.std.specs.Prelude.{◌≡◌, ◌↔◌, ◌++◌, ◌∷◌, [], false, map, ◌≤◌, ◌<◌, length, All, IsTrue, IfOk};
+ghost use Rattle.std.specs.Prelude.{◌≡◌, ◌↔◌, ◌++◌, ◌∷◌, [], false, ◌≤◌, ◌<◌, length, All, IsTrue, IfOk, OnOk};
 ghost use Rattle.cfj_logic.specs.Selections.{choices as choices_of};
 ghost use Rattle.cfj_logic.specs.UnitClauses.{Leads};
 ghost use Rattle.cfj_logic.specs.Logs.{AreBelow, AreWellFormed, AreSettledByFeatures, IsRefutation, IsProofOfLeast, ExtendsToModel, IsForcedAt, AreForced, fixed};
 
 use crate::accepted::{accepted, holds_empty};
 use crate::premises::{choices, fixed};
-use crate::units::propagate;
-use cfj_logic::{Clauses, Literal, Log, Selection};
-use cfj_words::Items;
+use cfj_logic::{Clauses, Log, Selection};
 use std::alloc::{AllocError, Global};
+use unit_propagation::WatchedClauses;
 
 /// Whether the log is accepted and holds the empty clause, so that no assignment makes every clause true.
 ///
@@ -22,39 +21,40 @@ pub fn check_refutation(alloc: Global, clauses: &Clauses, log: &Log) -> Result<b
     if !holds_empty(log.clauses()) {
         return Ok(false);
     }
-    Ok(accepted(alloc, clauses, log.clauses())?.is_some())
+    let mut premises = WatchedClauses::of(alloc, clauses.vars, clauses.list.slice())?;
+    accepted(alloc, clauses, log.clauses(), &mut premises)
 }
 
 /// Whether unit clauses lead from these values of the first variables to a falsified clause.
 pub fn is_conflict(
     alloc: Global,
-    clauses: &Clauses,
-    learned: &[Items<Literal>],
+    vars: u64,
+    premises: &mut WatchedClauses,
     prefix: &[bool],
 ) -> Result<bool, AllocError>
-    requires formed { AreWellFormed clauses.now }
-    requires learned { All (AreBelow clauses.now.vars) learned.now }
-    requires prefix { length prefix.now ≤ clauses.now.vars }
-    ensures { IfOk result (λ b. IsTrue b ↔ Leads (clauses.now.list ++ learned.now) (fixed clauses.now.vars prefix.now)) }
+    requires premises { All (AreBelow vars) premises.old }
+    requires prefix { length prefix.now ≤ vars }
+    ensures leads { IfOk result (λ b. IsTrue b ↔ Leads premises.old (fixed vars prefix.now)) }
+    ensures same { OnOk result (premises.new ≡ premises.old) }
 {
-    let mut values = fixed(alloc, clauses.vars, prefix)?;
-    Ok(propagate(values.as_mut_slice(), clauses.list.slice(), learned))
+    let mut values = fixed(alloc, vars, prefix)?;
+    premises.propagate(alloc, values.as_mut_slice())
 }
 
 /// Whether the feature has to be selected, if it is: with those before it as they are, and it not selected, unit clauses lead to
 /// a falsified clause.
 fn is_forced(
     alloc: Global,
-    clauses: &Clauses,
-    learned: &[Items<Literal>],
+    vars: u64,
+    premises: &mut WatchedClauses,
     choices: &[bool],
     feature: usize,
 ) -> Result<bool, AllocError>
-    requires formed { AreWellFormed clauses.now }
-    requires learned { All (AreBelow clauses.now.vars) learned.now }
-    requires short { length choices.now ≤ clauses.now.vars }
+    requires premises { All (AreBelow vars) premises.old }
+    requires short { length choices.now ≤ vars }
     requires feature { feature < length choices.now }
-    ensures { IfOk result (λ b. IsTrue b ↔ IsForcedAt clauses.now.vars (clauses.now.list ++ learned.now) choices.now feature) }
+    ensures forced { IfOk result (λ b. IsTrue b ↔ IsForcedAt vars premises.old choices.now feature) }
+    ensures same { OnOk result (premises.new ≡ premises.old) }
 {
     if !choices[feature] {
         return Ok(true);
@@ -62,23 +62,22 @@ fn is_forced(
     let mut prefix = Vec::new(alloc);
     prefix.extend_from_slice(&choices[..feature])?;
     prefix.push(false)?;
-    is_conflict(alloc, clauses, learned, prefix.as_slice())
+    is_conflict(alloc, vars, premises, prefix.as_slice())
 }
 
 /// Whether each selected feature has to be.
 fn are_forced(
     alloc: Global,
-    clauses: &Clauses,
-    learned: &[Items<Literal>],
+    vars: u64,
+    premises: &mut WatchedClauses,
     choices: &[bool],
 ) -> Result<bool, AllocError>
-    requires formed { AreWellFormed clauses.now }
-    requires learned { All (AreBelow clauses.now.vars) learned.now }
-    requires short { length choices.now ≤ clauses.now.vars }
-    ensures { IfOk result (λ b. IsTrue b ↔ AreForced clauses.now.vars (clauses.now.list ++ learned.now) choices.now) }
+    requires premises { All (AreBelow vars) premises.old }
+    requires short { length choices.now ≤ vars }
+    ensures { IfOk result (λ b. IsTrue b ↔ AreForced vars premises.old choices.now) }
 {
     for feature in 0..choices.len() {
-        if !is_forced(alloc, clauses, learned, choices, feature)? {
+        if !is_forced(alloc, vars, premises, choices, feature)? {
             return Ok(false);
         }
     }
@@ -89,17 +88,18 @@ fn are_forced(
 pub(crate) fn extends(
     alloc: Global,
     clauses: &Clauses,
+    premises: &mut WatchedClauses,
     choices: &[bool],
     selection: &Selection,
 ) -> Result<bool, AllocError>
     requires formed { AreWellFormed clauses.now }
     requires settled { AreSettledByFeatures clauses.now }
-    requires features { selection.now.features ≡ clauses.now.features }
-    requires choices { choices.now ≡ choices_of selection.now }
-    ensures { IfOk result (λ b. IsTrue b ↔ ExtendsToModel clauses.now selection.now) }
+    requires premises { premises.old ≡ clauses.now.list }
+    requires selection { (selection.now.features ≡ clauses.now.features) × (choices.now ≡ choices_of selection.now) }
+    ensures extends { IfOk result (λ b. IsTrue b ↔ ExtendsToModel clauses.now selection.now) }
+    ensures same { OnOk result (premises.new ≡ premises.old) }
 {
-    let none = Vec::new(alloc);
-    if is_conflict(alloc, clauses, none.as_slice(), choices)? {
+    if is_conflict(alloc, clauses.vars, premises, choices)? {
         Ok(false)
     } else {
         Ok(true)
@@ -121,11 +121,12 @@ pub fn check_least(
     ensures { IfOk result (λ b. IsTrue b ↔ IsProofOfLeast clauses.now log.now selection.now) }
 {
     let choices = choices(alloc, selection)?;
-    if !extends(alloc, clauses, choices.as_slice(), selection)? {
+    let mut premises = WatchedClauses::of(alloc, clauses.vars, clauses.list.slice())?;
+    if !extends(alloc, clauses, &mut premises, choices.as_slice(), selection)? {
         return Ok(false);
     }
-    match accepted(alloc, clauses, log.clauses())? {
-        Some(learned) => are_forced(alloc, clauses, learned.as_slice(), choices.as_slice()),
-        None => Ok(false),
+    if !accepted(alloc, clauses, log.clauses(), &mut premises)? {
+        return Ok(false);
     }
+    are_forced(alloc, clauses.vars, &mut premises, choices.as_slice())
 }

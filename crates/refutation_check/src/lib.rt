@@ -8,7 +8,6 @@ mod accepted;
 mod check;
 mod law;
 mod premises;
-mod units;
 
 pub use accepted::is_known;
 pub use cfj_logic::{Clauses, Literal};

@@ -6,7 +6,7 @@ use Rattle.std.proofs.Math.Pow.{pow-lt}
 use Rattle.std.proofs.lemmas.List.{take_more, length-take-le}
 use Rattle.std.proofs.lemmas.Option.{slice_get_past, slice_get-get_or}
 use Rattle.cfj_logic.specs.Selections.{has_bit, Chosen, choices}
-use Rattle.refutation_check.proofs.Members.{lt_or_ge, slice_get_left, slice_get_end}
+use Rattle.unit_propagation.proofs.Members.{lt_or_ge, slice_get_left, slice_get_end}
 use Rattle.refutation_check.proofs.Least.{choice_at, choices_length}
 use Rattle.sat_core.specs.Denials.{is_value}
 use Rattle.cfj_logic.proofs.FeatureBits.{has_bit_same, has_bit_other, has_bit_none}

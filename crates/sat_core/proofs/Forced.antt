@@ -10,8 +10,8 @@ use Rattle.cfj_logic.specs.Sides.{Sides}
 use Rattle.cfj_words.specs.Lists.{Has}
 use Rattle.cfj_logic.specs.UnitClauses.{value_of, IsFalse, IsUnit, with_true, Leads}
 use Rattle.cfj_logic.specs.Logs.{literals, premises, fixed, AreForced}
-use Rattle.refutation_check.proofs.Members.{lt_or_ge, has_left, has_right, has_split, has_map, has_source, has_none, slice_get_left, slice_get_end}
-use Rattle.refutation_check.proofs.UnitSteps.{leads_more, leads_after, leads_here, reaches_one}
+use Rattle.unit_propagation.proofs.Members.{lt_or_ge, has_left, has_right, has_split, has_map, has_source, has_none, slice_get_left, slice_get_end}
+use Rattle.unit_propagation.proofs.UnitSteps.{leads_more, leads_after, leads_here, reaches_one}
 use Rattle.refutation_check.proofs.FirstValues.{fixed_at, fixed_past, fixed_set}
 
 -- ---- more clauses

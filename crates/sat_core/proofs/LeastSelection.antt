@@ -9,12 +9,12 @@ use Rattle.cfj_logic.specs.Sides.{Sides}
 use Rattle.cfj_words.specs.Lists.{Has}
 use Rattle.cfj_logic.specs.UnitClauses.{value_of, Leads}
 use Rattle.cfj_logic.specs.Logs.{Assignment, AreWellFormed, IsModel, IsTrueIn, ExtendsToModel, literals, premises, fixed, IsAccepted, AreForced, AreSettledByFeatures, IsProofOfLeast}
-use Rattle.refutation_check.proofs.Members.{lt_or_ge, has_left, has_split, has_source, slice_get_left, slice_get_end}
-use Rattle.refutation_check.proofs.UnitSteps.{leads_more}
+use Rattle.unit_propagation.proofs.Members.{lt_or_ge, has_left, has_split, has_source, slice_get_left, slice_get_end}
+use Rattle.unit_propagation.proofs.UnitSteps.{leads_more}
 use Rattle.refutation_check.proofs.Consequences.{true_where_follows, sound}
 use Rattle.refutation_check.proofs.Least.{fixed_value, choice_at, choices_length, settled_extends}
 use Rattle.sat_core.specs.Searches.{IsLeastThatExtends}
-use Rattle.sat_core.specs.States.{IsConflict, IsState}
+use Rattle.sat_core.specs.States.{IsConflict, IsLearned, IsState}
 
 take_get : {A : Type 0} (xs : List A) (k j : ℕ) (x : A) → slice_get (take k xs) j ≡ Some x → (j < k) × (slice_get xs j ≡ Some x)
 take_get xs zero j x e = absurd (let bad : ⊥ = cc e in bad)
@@ -98,18 +98,30 @@ none_earlier clauses log s t same all forced e x =
 
 -- ---- the answer
 
-pub least_found : (clauses : Clauses) (budget : ℕ) (log : List Sides) (learned : List (List Literal)) (prefix : List Bool) (back : Bool) (s : Chosen) → AreWellFormed clauses → AreSettledByFeatures clauses → IsState clauses budget log learned prefix back →
-    s.features ≡ clauses.features → choices s ≡ prefix → (IsConflict clauses log prefix → ⊥) → IsLeastThatExtends clauses s × IsProofOfLeast clauses log s × (length log ≤ budget)
-least_found clauses budget log learned prefix back s formed settled state same are clear = (
-  record { features = same; extends = extends; least = λ t e x. none_earlier clauses log s t same state.known.accepted forced e x },
-  record { accepted = state.known.accepted; extends = extends; forced = forced },
-  state.within,
+pub least_of : (clauses : Clauses) (budget : ℕ) (log : List Sides) (prefix : List Bool) (s : Chosen) → AreWellFormed clauses → AreSettledByFeatures clauses → IsAccepted clauses log → length log ≤ budget →
+    AreForced clauses.vars (premises clauses log) prefix → s.features ≡ clauses.features → choices s ≡ prefix → (IsConflict clauses log prefix → ⊥) → IsLeastThatExtends clauses s × IsProofOfLeast clauses log s × (length log ≤ budget)
+least_of clauses budget log prefix s formed settled accepted within all same are clear = (
+  record { features = same; extends = extends; least = λ t e x. none_earlier clauses log s t same accepted forced e x },
+  record { accepted = accepted; extends = extends; forced = forced },
+  within,
 )
   where
     forced : AreForced clauses.vars (premises clauses log) (choices s)
-    forced = subst (AreForced clauses.vars (premises clauses log)) (sym are) state.forced
+    forced = subst (AreForced clauses.vars (premises clauses log)) (sym are) all
 
     extends : ExtendsToModel clauses s
     extends = settled_extends clauses s formed settled same (λ leads.
         clear (subst (λ p. Leads (premises clauses log) (fixed clauses.vars p)) are
         (leads_more clauses.list (premises clauses log) (fixed clauses.vars (choices s)) (λ c h. has_left clauses.list (map literals log) c h) leads)))
+
+pub least_found : (clauses : Clauses) (budget : ℕ) (log : List Sides) (ps : List (List Literal)) (prefix : List Bool) (back : Bool) (s : Chosen) → AreWellFormed clauses → AreSettledByFeatures clauses → IsState clauses budget log ps prefix back →
+    s.features ≡ clauses.features → choices s ≡ prefix → (IsConflict clauses log prefix → ⊥) → IsLeastThatExtends clauses s × IsProofOfLeast clauses log s × (length log ≤ budget)
+least_found clauses budget log ps prefix back s formed settled state same are clear =
+    least_of clauses budget log prefix s formed settled state.known.accepted state.within state.forced same are clear
+
+-- the same over the premises themselves
+pub least_at_last : (clauses : Clauses) (budget : ℕ) (log : List Sides) (ps : List (List Literal)) (prefix : List Bool) (s : Chosen) → AreWellFormed clauses → AreSettledByFeatures clauses → IsLearned clauses log ps → length log ≤ budget →
+    AreForced clauses.vars ps prefix → s.features ≡ clauses.features → choices s ≡ prefix → (Leads ps (fixed clauses.vars prefix) → ⊥) → IsLeastThatExtends clauses s × IsProofOfLeast clauses log s × (length log ≤ budget)
+least_at_last clauses budget log ps prefix s formed settled known within forced same are clear =
+    least_of clauses budget log prefix s formed settled known.accepted within (subst (λ w. AreForced clauses.vars w prefix) known.premises_are forced) same are
+    (λ leads. clear (subst (λ w. Leads w (fixed clauses.vars prefix)) (sym known.premises_are) leads))

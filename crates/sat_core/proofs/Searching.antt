@@ -15,11 +15,11 @@ use Rattle.cfj_logic.specs.Sides.{Sides, empty_clause, is_empty, is_over, is_wit
 use Rattle.cfj_words.specs.Lists.{Has}
 use Rattle.cfj_logic.specs.UnitClauses.{Values, value_of, with_false, Leads}
 use Rattle.cfj_logic.specs.Logs.{AreWellFormed, literals, premises, assumed_from, assumed, fixed, IsEntry}
-use Rattle.refutation_check.proofs.Members.{lt_or_ge, has_left, has_right, has_none, none_has, any_has, has_any, both_true}
-use Rattle.refutation_check.proofs.UnitSteps.{set_cases}
+use Rattle.unit_propagation.proofs.Members.{lt_or_ge, has_left, has_right, has_none, none_has, any_has, has_any, both_true}
+use Rattle.unit_propagation.proofs.UnitSteps.{set_cases}
 use Rattle.refutation_check.proofs.FirstValues.{fixed_none, fixed_length, fixed_at, fixed_past, assumed_length, set_length}
 use Rattle.refutation_check.proofs.ClauseLiterals.{side, literals_has, literals_in}
-use Rattle.refutation_check.proofs.Accepting.{accepted_push}
+use Rattle.refutation_check.proofs.Accepting.{accepted_push, premises_push}
 use Rattle.sat_core.specs.Denials.{is_value, IsDenial, IsDenied}
 use Rattle.sat_core.specs.States.{IsLearned, IsConflict}
 use Rattle.sat_core.proofs.Forced.{not_twice}
@@ -31,7 +31,7 @@ use Rattle.cfj_logic.proofs.FeatureBits.{subset_has}
 abbrev pub Denies : List Literal → List Bool → Type 0
 Denies c p = (m : Literal) → Has c m → slice_get p m.var ≡ Some (not m.on)
 
-value_is : (b : Bool) (v : Option Bool) → is_value b v ≡ true → v ≡ Some b
+pub value_is : (b : Bool) (v : Option Bool) → is_value b v ≡ true → v ≡ Some b
 value_is b None e = absurd (let bad : ⊥ = cc e in bad)
 value_is true (Some true) e = refl
 value_is true (Some false) e = absurd (let bad : ⊥ = cc e in bad)
@@ -80,20 +80,21 @@ assumed_others (l ∷ c) vs x each = assumed_others c (with_false vs l) x (λ m 
     go (inl s) = absurd (each l (0, refl) (sym s.0))
     go (inr s) = s
 
-one_denied : (p : List Bool) (m k : Literal) → slice_get p m.var ≡ Some (not m.on) → slice_get p k.var ≡ Some (not k.on) → k.var ≡ m.var → not k.on ≡ not m.on
-one_denied p m k d e same =
-    let s : Some (not k.on) ≡ Some (not m.on) = sym e ∙ ap (slice_get p) same ∙ d in
+one_denied : (v : ℕ → Option Bool) (m k : Literal) → v m.var ≡ Some (not m.on) → v k.var ≡ Some (not k.on) → k.var ≡ m.var → not k.on ≡ not m.on
+one_denied v m k d e same =
+    let s : Some (not k.on) ≡ Some (not m.on) = sym e ∙ ap v same ∙ d in
     cc s
 
-assumed_has : (c : List Literal) (vs : Values) (p : List Bool) (m : Literal) → Denies c p → Has c m → m.var < length vs → value_of (assumed_from vs c) m.var ≡ Some (not m.on)
-assumed_has [] vs p m denies h lt = absurd (has_none m h)
-assumed_has (l ∷ c) vs p m denies (zero, e) lt =
+-- where all literals of a clause are false under some values, assuming them false gives those values
+pub assumed_has : (c : List Literal) (vs : Values) (v : ℕ → Option Bool) (m : Literal) → ((k : Literal) → Has c k → v k.var ≡ Some (not k.on)) → Has c m → m.var < length vs → value_of (assumed_from vs c) m.var ≡ Some (not m.on)
+assumed_has [] vs v m denies h lt = absurd (has_none m h)
+assumed_has (l ∷ c) vs v m denies (zero, e) lt =
     let same : l ≡ m = cc e in
-    assumed_keeps c (with_false vs l) m.var (not m.on) (λ k h s. one_denied p m k (denies m (0, e)) (denies k (suc h.0, h.1)) s)
+    assumed_keeps c (with_false vs l) m.var (not m.on) (λ k h s. one_denied v m k (denies m (0, e)) (denies k (suc h.0, h.1)) s)
     (subst (λ (w : Literal). value_of (with_false vs w) m.var ≡ Some (not m.on)) (sym same) (get_or-set_same vs m.var (Some (not m.on)) None lt))
-assumed_has (l ∷ c) vs p m denies (suc k, e) lt =
+assumed_has (l ∷ c) vs v m denies (suc k, e) lt =
     let n = set_length vs l.var (Some (not l.on)) in
-    assumed_has c (with_false vs l) p m (λ d h. denies d (suc h.0, h.1)) (k, e) (omega (arith, n, lt))
+    assumed_has c (with_false vs l) v m (λ d h. denies d (suc h.0, h.1)) (k, e) (omega (arith, n, lt))
 
 denial_side : (c : Sides) (p : List Bool) (x : ℕ) (b : Bool) → IsDenial c p → slice_get p x ≡ Some b → has_bit (side c (not b)) x ≡ true
 denial_side c p x true d e = d.off x ∙ ap (is_value true) e
@@ -115,7 +116,7 @@ assumed_fixed vars c p d few short = same_values (assumed vars (literals c)) (fi
     inside : (x : ℕ) (b : Bool) → x < length p → slice_get p x ≡ Some b → value_of (assumed vars (literals c)) x ≡ value_of (fixed vars p) x
     inside x b lt e =
         let h = literals_in c x (not b) (omega (arith, lt, few)) (denial_side c p x b d e) in
-        assumed_has (literals c) none p (record { var = x; on = not b }) denies h (omega (arith, none_length, lt, short))
+        assumed_has (literals c) none (slice_get p) (record { var = x; on = not b }) denies h (omega (arith, none_length, lt, short))
         ∙ ap Some (not_twice b) ∙ sym (fixed_at vars p x b e (omega (arith, lt, short)))
 
     other : (x : ℕ) → length p ≤ x → (m : Literal) → Has (literals c) m → m.var ≢ x
@@ -171,7 +172,7 @@ empty_entry clauses log plain leads = record {
 
 -- ---- learning
 
-denial_some : (c : Sides) (p : List Bool) → IsDenial c p → 0 < length p → is_empty c ≡ false
+pub denial_some : (c : Sides) (p : List Bool) → IsDenial c p → 0 < length p → is_empty c ≡ false
 denial_some c p d lt = go (is_empty c) refl
   where
     at : slice_get p 0 ≡ Some (get_or p 0 false)
@@ -190,12 +191,12 @@ denial_some c p d lt = go (is_empty c) refl
 plain_push : (log : List Sides) (c : Sides) → list_any is_empty log ≡ false → is_empty c ≡ false → list_any is_empty (log ++ c ∷ []) ≡ false
 plain_push log c plain some = list_any-append is_empty log (c ∷ []) ∙ ap (λ b. b || (is_empty c || false)) plain ∙ ap (λ b. b || false) some
 
-pub learned_push : (clauses : Clauses) (log new : List Sides) (learned more : List (List Literal)) (c : Sides) (list : List Literal) (p : List Bool) → IsLearned clauses log learned → IsEntry clauses log c → IsDenial c p → 0 < length p →
-    list ≡ literals c → more ≡ learned ++ list ∷ [] → new ≡ log ++ c ∷ [] → IsLearned clauses new more
-learned_push clauses log new learned more c list p known entry denial some list_is more_is new_is = subst (λ w. IsLearned clauses w more) (sym new_is) (record {
-  literals = more_is ∙ ap (λ w. w ++ list ∷ []) known.literals ∙ ap (λ w. map literals log ++ w ∷ []) list_is ∙ sym (map-append literals log (c ∷ []));
+pub learned_push : (clauses : Clauses) (log new : List Sides) (ps more : List (List Literal)) (c : Sides) (list : List Literal) → IsLearned clauses log ps → IsEntry clauses log c → is_empty c ≡ false →
+    list ≡ literals c → more ≡ ps ++ list ∷ [] → new ≡ log ++ c ∷ [] → IsLearned clauses new more
+learned_push clauses log new ps more c list known entry some list_is more_is new_is = subst (λ w. IsLearned clauses w more) (sym new_is) (record {
+  premises_are = more_is ∙ ap (λ w. w ++ list ∷ []) known.premises_are ∙ ap (λ w. premises clauses log ++ w ∷ []) list_is ∙ sym (premises_push clauses log c);
   accepted = accepted_push clauses log c known.accepted entry;
-  plain = plain_push log c known.plain (denial_some c p denial some);
+  plain = plain_push log c known.plain some;
 })
 
 pub known_denied : (log : List Sides) (c : Sides) (p : List Bool) → IsDenial c p → list_any (λ d. is_within d c) log ≡ true → IsDenied log p

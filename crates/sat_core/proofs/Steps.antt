@@ -6,9 +6,9 @@ use Rattle.cfj_logic.specs.Sides.{Sides, empty_clause, is_empty}
 use Rattle.cfj_words.specs.Lists.{Has}
 use Rattle.cfj_logic.specs.UnitClauses.{Leads}
 use Rattle.cfj_logic.specs.Logs.{AreWellFormed, literals, premises, fixed, IsRefutation, AreForced}
-use Rattle.refutation_check.proofs.Members.{has_right, has_any, has_map}
-use Rattle.refutation_check.proofs.UnitSteps.{leads_more}
-use Rattle.refutation_check.proofs.Accepting.{accepted_none, accepted_push}
+use Rattle.unit_propagation.proofs.Members.{has_right, has_any, has_map}
+use Rattle.unit_propagation.proofs.UnitSteps.{leads_more}
+use Rattle.refutation_check.proofs.Accepting.{accepted_none, accepted_push, premises_none}
 use Rattle.sat_core.specs.Denials.{IsDenied}
 use Rattle.sat_core.specs.States.{IsLearned, IsConflict, IsState, Retreats}
 use Rattle.sat_core.proofs.Forced.{premises_more, forced_more, forced_front, forced_last, forced_end, retreats}
@@ -18,14 +18,24 @@ use Rattle.sat_core.proofs.Searching.{empty_entry}
 forced_none : (vars : ℕ) (cs : List (List Literal)) → AreForced vars cs []
 forced_none vars cs f h = absurd (let bad : ⊥ = cc h in bad)
 
-pub state_first : (clauses : Clauses) (budget : ℕ) → IsState clauses budget [] [] [] false
-state_first clauses budget = record {
-  known = record { literals = refl; accepted = accepted_none clauses; plain = refl };
+pub learned_first : (clauses : Clauses) (ps : List (List Literal)) → ps ≡ clauses.list → IsLearned clauses [] ps
+learned_first clauses ps is = record { premises_are = is ∙ premises_none clauses; accepted = accepted_none clauses; plain = refl }
+
+state_first : (clauses : Clauses) (budget : ℕ) (ps : List (List Literal)) → ps ≡ clauses.list → IsState clauses budget [] ps [] false
+state_first clauses budget ps is = record {
+  known = learned_first clauses ps is;
   short = omega arith;
   forced = forced_none clauses.vars (premises clauses []);
   conflict = λ e. absurd (let bad : ⊥ = cc e in bad);
   within = omega arith;
 }
+
+pub state_begin : (clauses : Clauses) (budget : ℕ) (log : List Sides) (ps : List (List Literal)) (prefix : List Bool) → log ≡ [] → ps ≡ clauses.list → prefix ≡ [] → IsState clauses budget log ps prefix false
+state_begin clauses budget log ps prefix l is p =
+    subst (λ w. IsState clauses budget log ps w false) (sym p) (subst (λ w. IsState clauses budget w ps [] false) (sym l) (state_first clauses budget ps is))
+
+pub state_same : (clauses : Clauses) (budget : ℕ) (log : List Sides) (ps qs : List (List Literal)) (prefix : List Bool) (back : Bool) → qs ≡ ps → IsState clauses budget log ps prefix back → IsState clauses budget log qs prefix back
+state_same clauses budget log ps qs prefix back e state = subst (λ w. IsState clauses budget log w prefix back) (sym e) state
 
 -- one more feature, not selected
 pub state_down : (clauses : Clauses) (budget : ℕ) (log : List Sides) (learned : List (List Literal)) (prefix new : List Bool) (back : Bool) → IsState clauses budget log learned prefix back → (IsConflict clauses log prefix → ⊥) → length prefix < clauses.features →

@@ -6,7 +6,7 @@ use Rattle.cfj_logic.specs.Selections.{has_bit}
 use Rattle.cfj_logic.specs.Sides.{Sides}
 use Rattle.cfj_words.specs.Lists.{Has}
 use Rattle.cfj_logic.specs.Logs.{literals}
-use Rattle.refutation_check.specs.Standings.{bool_eq}
+use Rattle.unit_propagation.specs.Standings.{bool_eq}
 
 -- the value is there, and is this one
 abbrev pub is_value : Bool → Option Bool → Bool

@@ -10,10 +10,10 @@ ghost use Rattle.sat_core.specs.Searches.{AnswerSays};
 
 use crate::answer::Answer;
 use crate::denial::{denial, selection_of};
-use cfj_logic::{Clause, Clauses, FeatureSet, Literal, Log};
-use cfj_words::Items;
+use cfj_logic::{Clause, Clauses, FeatureSet, Log};
 use refutation_check::{is_conflict, is_known, literals};
 use std::alloc::{AllocError, Global};
+use unit_propagation::WatchedClauses;
 
 /// Whether unit clauses lead from these values of the first features to a falsified clause, which may be known.
 fn conflict(
@@ -21,19 +21,20 @@ fn conflict(
     back: bool,
     clauses: &Clauses,
     log: &Log,
-    learned: &[Items<Literal>],
+    premises: &mut WatchedClauses,
     prefix: &[bool],
 ) -> Result<bool, AllocError>
     requires formed { AreWellFormed clauses.now }
-    requires learned { IsLearned clauses.now log.now learned.now }
+    requires learned { IsLearned clauses.now log.now premises.old }
     requires short { length prefix.now ≤ clauses.now.features }
     requires back { back ≡ true → IsConflict clauses.now log.now prefix.now }
-    ensures { IfOk result (λ b. IsTrue b ↔ IsConflict clauses.now log.now prefix.now) }
+    ensures conflict { IfOk result (λ b. IsTrue b ↔ IsConflict clauses.now log.now prefix.now) }
+    ensures same { OnOk result (premises.new ≡ premises.old) }
 {
     if back {
         return Ok(true);
     }
-    is_conflict(alloc, clauses, learned, prefix)
+    is_conflict(alloc, clauses.vars, premises, prefix)
 }
 
 /// Logs the empty clause.
@@ -48,15 +49,15 @@ fn deny(
     alloc: Global,
     clauses: &Clauses,
     log: &mut Log,
-    learned: &mut Vec<Items<Literal>>,
+    premises: &mut WatchedClauses,
     prefix: &[bool],
 ) -> Result<(), AllocError>
     requires formed { AreWellFormed clauses.now }
-    requires learned { IsLearned clauses.now log.old learned.old.items }
+    requires learned { IsLearned clauses.now log.old premises.old }
     requires short { length prefix.now ≤ clauses.now.features }
     requires some { 0 < length prefix.now }
     requires conflict { IsConflict clauses.now log.old prefix.now }
-    ensures learned { OnOk result (IsLearned clauses.now log.new learned.new.items) }
+    ensures learned { OnOk result (IsLearned clauses.now log.new premises.new) }
     ensures denied { OnOk result (IsDenied log.new prefix.now) }
     ensures longer { OnOk result (length log.new ≤ length log.old + 1) }
     ensures kept { OnOk result ((d : Sides) → Has log.old d → Has log.new d) }
@@ -65,7 +66,7 @@ fn deny(
     if is_known(log.clauses(), &clause) {
         return Ok(());
     }
-    learned.push(literals(alloc, &clause)?)?;
+    premises.push(literals(alloc, &clause)?)?;
     log.push(clause)
 }
 
@@ -89,7 +90,7 @@ fn retreat(prefix: &mut Vec<bool>) -> Result<bool, AllocError>
 /// The least selection that extends to a model of the clauses, or a refutation; where as many clauses are learned as the budget
 /// allows, the search gives up.
 ///
-/// Features are decided in the order of their numbers, not selected first. At a conflict the clause that denies the decisions is
+/// Features are decided in the order of their numbers, not selected first. At a conflict the clause that denies all decisions is
 /// logged, and the search goes back by one. The only error is want of memory.
 pub fn solve(alloc: Global, clauses: &Clauses, budget: u32) -> Result<Answer, AllocError>
     requires formed { AreWellFormed clauses.now }
@@ -98,18 +99,11 @@ pub fn solve(alloc: Global, clauses: &Clauses, budget: u32) -> Result<Answer, Al
     ensures { IfOk result (λ answer. AnswerSays clauses.now budget answer) }
 {
     let mut log = Log::new(alloc);
-    let mut learned: Vec<Items<Literal>> = Vec::new(alloc);
+    let mut premises = WatchedClauses::of(alloc, clauses.vars, clauses.list.slice())?;
     let mut prefix: Vec<bool> = Vec::new(alloc);
     let mut back = false;
     'search: loop {
-        if !conflict(
-            alloc,
-            back,
-            clauses,
-            &log,
-            learned.as_slice(),
-            prefix.as_slice(),
-        )? {
+        if !conflict(alloc, back, clauses, &log, &mut premises, prefix.as_slice())? {
             if prefix.len() == clauses.features as usize {
                 let selection = selection_of(clauses.features, prefix.as_slice());
                 return Ok(Answer::Least(selection, log));
@@ -124,7 +118,7 @@ pub fn solve(alloc: Global, clauses: &Clauses, budget: u32) -> Result<Answer, Al
             refute(&mut log)?;
             return Ok(Answer::Refuted(log));
         }
-        deny(alloc, clauses, &mut log, &mut learned, prefix.as_slice())?;
+        deny(alloc, clauses, &mut log, &mut premises, prefix.as_slice())?;
         back = retreat(&mut prefix)?;
     }
 }

@@ -1,4 +1,4 @@
-use Rattle.std.proofs.Common.{◌≡◌, ◌++◌, ◌∙◌, sym, subst, true, false}
+use Rattle.std.proofs.Common.{◌≡◌, ◌∙◌, sym, subst, true, false}
 use Rattle.cfj_logic.specs.Logs.{AreBelow, Follows}
 use Rattle.refutation_check.proofs.Accepting.{over_below, entry_of, entry_follows, known_not_entry}
 use Rattle.refutation_check.proofs.accepted.entry.Goals as goal
@@ -13,14 +13,14 @@ returns-then-is_known-clause-none c = known_not_entry c.args.clauses.now c.args.
 pub returns-then-branch-clause-some : goal.returns-then-branch-clause-some
 returns-then-branch-clause-some c = (
   c.in_ok-list.ensures,
-  entry_of c.args.clauses.now c.args.before.now c.args.learned.now c.args.clause.now c.in_ok-list.list c.requires.learned c.in_ok-list.ensures
+  entry_of c.args.clauses.now c.args.before.now c.args.premises.now c.args.clause.now c.in_ok-list.list c.requires.premises c.in_ok-list.ensures
       (sym c.is_over.ensures.over ∙ c.if-not-is_over.false) c.is_over.ensures.once (sym c.is_known.ensures ∙ c.if-is_known.false)
-      (subst (Follows c.args.clauses.now.vars (c.args.clauses.now.list ++ c.args.learned.now)) c.slice.ensures (c.in_ok-follows.ensures.0 c.if-branch.true)),
+      (subst (Follows c.args.clauses.now.vars c.args.premises.now) c.slice.ensures (c.in_ok-follows.ensures.follows.0 c.if-branch.true)),
 )
 
 pub returns-else-branch-clause-none : goal.returns-else-branch-clause-none
 returns-else-branch-clause-none c = λ e.
-    let f = entry_follows c.args.clauses.now c.args.before.now c.args.learned.now c.args.clause.now c.in_ok-list.list c.requires.learned c.in_ok-list.ensures e in
-    let t = c.in_ok-follows.ensures.1 (subst (Follows c.args.clauses.now.vars (c.args.clauses.now.list ++ c.args.learned.now)) (sym c.slice.ensures) f) in
-    let no : true ≡ false = sym t ∙ c.if-branch.false in
+    let f = entry_follows c.args.clauses.now c.args.before.now c.args.premises.now c.args.clause.now c.in_ok-list.list c.requires.premises c.in_ok-list.ensures e in
+    let whole = c.in_ok-follows.ensures.follows.1 (subst (Follows c.args.clauses.now.vars c.args.premises.now) (sym c.slice.ensures) f) in
+    let no : true ≡ false = sym whole ∙ c.if-branch.false in
     cc no

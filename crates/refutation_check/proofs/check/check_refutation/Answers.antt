@@ -1,9 +1,8 @@
-use Rattle.std.proofs.Common.{◌≡◌, map, sym, ◌∙◌, ap, subst, Vec, Global, List}
+use Rattle.std.proofs.Common.{sym, ◌∙◌, ap, subst}
 use Rattle.std.specs.List.{list_any}
-use Rattle.cfj_logic.specs.declared.clauses.Literal.{Literal}
 use Rattle.cfj_logic.specs.Sides.{is_empty}
-use Rattle.cfj_logic.specs.Logs.{IsAccepted, literals}
-use Rattle.refutation_check.proofs.Least.{refuted, refutation_holds_empty, where_some, some_where}
+use Rattle.cfj_logic.specs.Logs.{IsAccepted, IsRefutation}
+use Rattle.refutation_check.proofs.Least.{refuted, refutation_holds_empty, same_answer}
 use Rattle.refutation_check.proofs.check.check_refutation.Goals as goal
 
 pub returns-then-not-holds_empty : goal.returns-then-not-holds_empty
@@ -17,8 +16,7 @@ returns-then-not-holds_empty c = (
 pub returns : goal.returns
 returns c =
     let read = c.clauses-2.ensures in
-    let empty = ap (list_any is_empty) (sym c.clauses.ensures) ∙ sym c.holds_empty.ensures ∙ c.if-not-holds_empty.false in (
-      λ t. refuted c.args.clauses.now c.args.log.now empty (subst (IsAccepted c.args.clauses.now) read
-          (where_some (λ (learned : Vec (List Literal) Global). learned.items ≡ map literals c.clauses-2.result.now) (IsAccepted c.args.clauses.now c.clauses-2.result.now) c.in_ok-accepted.field-0 c.in_ok-accepted.ensures.some (sym c.is_some.ensures ∙ t))),
-      λ r. c.is_some.ensures ∙ some_where (IsAccepted c.args.clauses.now c.clauses-2.result.now) c.in_ok-accepted.field-0 c.in_ok-accepted.ensures.none (subst (IsAccepted c.args.clauses.now) (sym read) r.accepted),
-    )
+    let empty = ap (list_any is_empty) (sym c.clauses.ensures) ∙ sym c.holds_empty.ensures ∙ c.if-not-holds_empty.false in
+    same_answer c.accepted.result (IsAccepted c.args.clauses.now c.clauses-2.result.now) (IsRefutation c.args.clauses.now c.args.log.now)
+    (λ all. refuted c.args.clauses.now c.args.log.now empty (subst (IsAccepted c.args.clauses.now) read all))
+    (λ r. subst (IsAccepted c.args.clauses.now) (sym read) r.accepted) c.accepted.ensures.accepted

@@ -1,6 +1,6 @@
 use Rattle.std.proofs.Common.{true, false, arith, sym, ◌∙◌, ap, subst}
 use Rattle.cfj_logic.specs.Selections.{Chosen}
-use Rattle.refutation_check.proofs.Members.{all_taken}
+use Rattle.unit_propagation.proofs.Members.{all_taken}
 use Rattle.sat_core.proofs.Denying.{Collects, collects_next, collects_past, choices_are}
 use Rattle.sat_core.proofs.denial.selection_of.Goals.{then-values-feature, else-values-feature}
 use Rattle.sat_core.proofs.denial.selection_of.Goals as goal

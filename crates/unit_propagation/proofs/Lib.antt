@@ -1,0 +1,5 @@
+pub mod Members
+pub mod Passes
+pub mod Standing
+pub mod UnitSteps
+pub mod Watching

@@ -1,0 +1,4 @@
+pub mod Ends
+pub mod Falsified
+pub mod Standings
+pub mod Visits

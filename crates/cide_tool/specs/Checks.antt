@@ -17,8 +17,9 @@ findings_status v es = if list_any is_broken es then 1 else (if are_decided v es
 abbrev pub AreWellTyped : ProductLine → Type 0
 AreWellTyped line = (s : Chosen) → IsValidFor line s → IsWellTyped (projected s line).classes
 
--- A verdict and entries that are checked for a product line and a budget. Without an entry every variant is well typed. Where there
--- are few features for the budget, nothing is undecided.
+-- A verdict and entries that are checked for a product line and a budget. Without an entry the variant of every
+-- valid selection is well typed. Nothing is undecided where the budget is at least 3 ^ n for n features: no more
+-- clauses hold each feature at most once.
 pub record IsFound (line : ProductLine) (budget : ℕ) (v : Verdict) (es : List Entry) : Type 0 where
   pub checked : IsChecked line budget v es
   pub clean : es ≡ [] → AreWellTyped line

@@ -37,7 +37,8 @@ abbrev pub project_of : Asked → List ℕ
 project_of (Asked.check project budget) = project
 project_of (Asked.export project names) = project
 
--- The ways to end that the words and the inputs decide, each with its cause, by their statuses.
+-- The ways to end for which the words and the inputs are the cause, by their statuses. All but `checked` say one
+-- thing of the words and of a text; a check may leave open what its budget doesn't decide.
 pub data Ends (inputs : List ℕ → Known) : Option Asked → Ending → Type 0 where
   -- 0: the variant is printed, whose selection the names spell and is valid
   exported : (name names : List ℕ) (line : ProductLine) (s : Chosen)
@@ -48,7 +49,7 @@ pub data Ends (inputs : List ℕ → Known) : Option Asked → Ending → Type 0
   checked : (name : List ℕ) (budget : ℕ) (line : ProductLine) (v : Verdict) (es : List Entry)
       → StandsFor (inputs name) line → IsFound line budget v es
       → Ends inputs (Some (Asked.check name budget)) (done (findings_status v es) (findings line.model.features v es))
-  -- 3: the project's text isn't in the grammar
+  -- 3: the project's text breaks the grammar, a rule of names or a limit; this is its first fault
   no_text : (a : Asked) (at : ℕ) (kind : FaultKind)
       → HasFirstFault (inputs (project_of a)) at kind
       → Ends inputs (Some a) (refused 3 (fault_line at kind))
@@ -68,20 +69,21 @@ pub data Ends (inputs : List ℕ → Known) : Option Asked → Ending → Type 0
       → IsTooLong (inputs (project_of a))
       → Ends inputs (Some a) (refused 11 limit_line)
 
--- A run of what the words ask gave a status: it came to one of these ends, or was cut short. `ReadFails` says that the room counted a
--- read fault, `Puts output result` that standard output gained this or, after a failure, a proper prefix of it, and `Says line` that
--- standard error was given this line.
+-- A run of what the words ask gave a status: it came to one of these ends, or was cut short. `ReadFails` says that
+-- the room counted a read fault, `Puts output result` that standard output gained this or, after a failure, a proper
+-- prefix of it, and `Says line` that standard error was given this line.
 pub data IsRun (inputs : List ℕ → Known) (ReadFails : Type 0) (Puts : List ℕ → Result Unit Failed → Type 0)
     (Says : List ℕ → Type 0) : Option Asked → ℕ → Type 0 where
   -- The run came to one of these ends.
   ended : (asks : Option Asked) (e : Ending) → Ends inputs asks e → Puts e.output (Ok tt) → Says e.line
       → IsRun inputs ReadFails Puts Says asks e.status
-  -- 5: the project can't be opened or read; nothing is put out
+  -- 5: the room counted a read fault, as it does where the project can't be opened or read; nothing is put out
   read_fault : (a : Asked) → ReadFails → Puts [] (Ok tt) → Says read_fault_line
       → IsRun inputs ReadFails Puts Says (Some a) 5
-  -- 6: the output can't be written: at such an end a proper prefix is put out
+  -- 6: the output can't be written: a proper prefix of what such an end puts out is put out, so it is an end that
+  -- has some
   write_fault : (asks : Option Asked) (e : Ending) (fault : Failed) → Ends inputs asks e → Puts e.output (Err fault)
       → Says write_fault_line → IsRun inputs ReadFails Puts Says asks 6
-  -- 7: there is no memory; nothing is put out
+  -- 7: there is no memory, for which no contract can name a cause; nothing is put out
   no_memory : (asks : Option Asked) → Puts [] (Ok tt) → Says no_memory_line
       → IsRun inputs ReadFails Puts Says asks 7

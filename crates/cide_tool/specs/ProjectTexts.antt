@@ -25,7 +25,7 @@ pub record StandsFor (input : Known) (project : ProductLine) : Type 0 where
   pub whole : IsProjectText input text
   pub read : IsTextOf projects text project
 
--- The project's text isn't in the grammar, and this is its first fault.
+-- The project's text is none within the limits, and this is its first fault.
 pub record HasFirstFault (input : Known) (at : ℕ) (kind : FaultKind) : Type 0 where
   pub text : List ℕ
   pub whole : IsProjectText input text

@@ -60,7 +60,9 @@ pub fn run_plain<T: AllocGlobal, R: Room, O: Sink, E: Sink>(
     }
 }
 
-/// Does what the words after the program's name ask, as [`run_plain`] does.
+/// Does what the words after the program's name ask, says on `err` what went wrong, and gives the status to end with.
+///
+/// No command that is built needs more than [`run_plain`], which waits for nobody.
 pub fn run<T: AllocGlobal, R: Room, O: Sink, E: Sink>(
     rt: &T,
     words: &[String],

@@ -1,4 +1,5 @@
--- The diagnostics of a product line, over all its valid selections; and when entries and a verdict tell them, within a budget.
+-- The diagnostics of a product line, over all its valid selections; and when entries and a verdict tell them, within
+-- a budget.
 use Rattle.std.specs.Prelude.{◌≡◌, ℕ, ◌^◌, ◌<◌, Bool, true, false, not, ◌==◌, ◌&&◌, ◌||◌, List, [], ◌∷◌, length, bit_and}
 use Rattle.std.specs.List.{list_all}
 use Rattle.cfj_model.specs.Judging.{Pair, Breaks, pairs_of}
@@ -33,8 +34,8 @@ pub record IsLeast (line : ProductLine) (So : Chosen → Type 0) (s : Chosen) : 
 abbrev pub IsNever : ProductLine → (Chosen → Type 0) → Type 0
 IsNever line So = (s : Chosen) → IsValidFor line s → So s → ⊥
 
--- The diagnostics of a line: each pair that breaks under some valid selection, with the least one. A pair that breaks under none has
--- no diagnostic.
+-- The diagnostics of a line: each pair that breaks under some valid selection, with the least one. A pair that
+-- breaks under none has no diagnostic.
 abbrev pub IsDiagnosed : ProductLine → Pair → Chosen → Type 0
 IsDiagnosed line p = IsLeast line (BreaksIn line p)
 
@@ -51,8 +52,9 @@ abbrev pub are_fresh : List Sides → Bool
 are_fresh [] = true
 are_fresh (c ∷ cs) = list_all (λ d. not (is_within c d)) cs && are_fresh cs
 
--- A log over the line's features that spends a budget: so many clauses, none of them empty or stronger than an earlier one, each true
--- under every valid selection of which something is so. So a selection that any of them denies is no answer.
+-- A log over the line's features that spends a budget: so many clauses, none of them empty, none with all literals
+-- of an earlier one, each true under every valid selection of which something is so. So a selection that any of them
+-- denies is no answer.
 pub record IsSpent (line : ProductLine) (budget : ℕ) (So : Chosen → Type 0) (log : List Sides) : Type 0 where
   pub long : length log ≡ budget
   pub over : list_all (is_over (length line.model.features)) log ≡ true

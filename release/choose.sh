@@ -4,7 +4,7 @@
 . "$top/release/sources.sh"
 
 # how long the first build takes
-price="from nothing that takes some 45 minutes on four idle processors, and less where rt has checked these crates before"
+price="from nothing that takes some 20 minutes on four idle processors, and less where rt has checked these crates before"
 
 # says why no program is run, and ends
 refuse() {

@@ -31,7 +31,7 @@ statements() {
 # sets `features`, and `bits`: the bit of each, the first feature's the highest
 read_features() {
     local at
-    mapfile -t features < <(statements | sed -n 's/^ *features //p' | tr -s ', ' '\n\n')
+    mapfile -t features < <(statements | sed -n 's/^ *features //p' | tr -s ', ' '\n')
     bits=()
     for at in "${!features[@]}"; do bits[${features[at]}]=$((1 << (${#features[@]} - at - 1))); done
 }
@@ -105,7 +105,7 @@ compile_all() {
 
 # has the compiler refuse each variant that a finding names
 refuse_all() {
-    local names found=0 refused=0
+    local names found=0 agreed=0
     while IFS= read -r names; do
         found=$((found + 1))
         if ! write_variant "${names:-.}" "$work/$name/$found"; then
@@ -113,12 +113,12 @@ refuse_all() {
         elif javac -proc:none -d "$work/$name/$found" "$work/$name/$found/Variant.java" >/dev/null 2>&1; then
             fail "$name: javac compiles the variant of $names"
         else
-            refused=$((refused + 1))
+            agreed=$((agreed + 1))
         fi
     done < <("$program" check "$example" | sed -n 's/^broken .*\[\(.*\)\]$/\1/p' | tr ' ' ',' | sort -u)
     if [ "$found" = 0 ]; then
         fail "$name: nothing is found"
-    elif [ "$found" = "$refused" ]; then
+    elif [ "$found" = "$agreed" ]; then
         echo "yes: $name: javac refuses each variant that a finding names, $found in all"
     fi
 }

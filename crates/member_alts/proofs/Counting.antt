@@ -46,15 +46,17 @@ module _ {A : Type 0} where
   found-push name_of xs x = ap (map (namesakes name_of)) (placed_behind-push [] xs x) ∙ map-append (namesakes name_of) (placed xs) (record { before = xs; item = x } ∷ [])
 
   -- one more member, whose name was counted before so often
-  pub counted_more : (name_of : A → List ℕ) (xs : List A) (x : A) (old new : List ℕ → ℕ) (alts more : List ℕ) (alt : ℕ) → AreCounted name_of xs old alts
-      → alt ≡ old (name_of x) → ((w : List ℕ) → new w ≡ old w + (if bytes_eq (name_of x) w then 1 else 0)) → more ≡ alts ++ alt ∷ []
-      → AreCounted name_of (xs ++ x ∷ []) new more
-  counted_more name_of xs x old new alts more alt so_far before counted pushed =
+  pub counted_more : (name_of : A → List ℕ) (xs : List A) (x : A) (name : List ℕ) (old new : List ℕ → ℕ) (alts more : List ℕ) (alt : ℕ)
+      → AreCounted name_of xs old alts → name ≡ name_of x → alt ≡ old name
+      → ((w : List ℕ) → new w ≡ old w + (if bytes_eq name w then 1 else 0)) → more ≡ alts ++ alt ∷ [] → AreCounted name_of (xs ++ x ∷ []) new more
+  counted_more name_of xs x name old new alts more alt so_far named before counted pushed =
       record {
-        counts = λ w. counted w ∙ ap (λ n. n + (if bytes_eq (name_of x) w then 1 else 0)) (so_far.counts w) ∙ sym (count_of-push name_of xs x w);
+        counts =
+            λ w. counted w ∙ ap (λ n. old w + (if bytes_eq n w then 1 else 0)) named ∙ ap (λ n. n + (if bytes_eq (name_of x) w then 1 else 0)) (so_far.counts w)
+            ∙ sym (count_of-push name_of xs x w);
         found =
-          pushed ∙ ap (λ n. alts ++ n ∷ []) (before ∙ so_far.counts (name_of x)) ∙ ap (λ ns. ns ++ count_of name_of xs (name_of x) ∷ []) so_far.found
-          ∙ sym (found-push name_of xs x);
+            pushed ∙ ap (λ n. alts ++ n ∷ []) (before ∙ ap old named ∙ so_far.counts (name_of x))
+            ∙ ap (λ ns. ns ++ count_of name_of xs (name_of x) ∷ []) so_far.found ∙ sym (found-push name_of xs x);
       }
 
   pub length-found : (name_of : A → List ℕ) (xs : List A) → length (map (namesakes name_of) (placed xs)) ≡ length xs

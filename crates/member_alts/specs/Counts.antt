@@ -1,3 +1,4 @@
+-- No public contract cites this: it serves the proofs.
 -- How often names were counted.
 use Rattle.std.specs.Prelude.{◌≡◌, ℕ, List, length, filter, map, unwrap_or}
 use Rattle.std.specs.Borrow.{Bor}

@@ -1,4 +1,4 @@
-use Rattle.std.proofs.Common.{◌≡◌, ◌+◌, Some, ap, sym, ◌∙◌, rules}
+use Rattle.std.proofs.Common.{◌≡◌, ◌+◌, Some}
 use Rattle.std.specs.Str.{bytes_eq}
 use Rattle.std.proofs.lemmas.Map.Text.{hash_map_updates_str}
 use Rattle.indexmap.specs.IndexMap.{get_by}
@@ -12,6 +12,6 @@ returns-clause-counted c =
     let new = c.insert.new.self in
     let name = c.args.name.now in
     let n = c.unwrap_or-before.result in
-    let was : count_in old name ≡ n = first_of (cc, search rules) in
+    let was : count_in old name ≡ n = cc in
     counted_once (λ w. get_by (λ k. bytes_eq w k.now) old) (λ w. get_by (λ k. bytes_eq w k.now) new) name n was
     (hash_map_updates_str name old new (Some (n + 1)) c.in_ok-insert.ensures.updates)

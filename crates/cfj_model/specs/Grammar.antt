@@ -9,6 +9,7 @@ use Rattle.cfj_model.specs.declared.class.Class.{Class}
 use Rattle.cfj_model.specs.ProductLines.{ProductLine}
 use Rattle.cfj_model.specs.ExpressionGrammar.{ExprTree, spell_expr, value_expr}
 use Rattle.cfj_model.specs.FormulaGrammar.{IffTree, spell_iff, value_iff}
+use Rattle.cfj_model.specs.Members.{numbered_fields, numbered_methods}
 use Rattle.cfj_model.specs.Marks.{in_order, each_behind, separated, spell_marks, colors_of}
 use Rattle.cfj_words.specs.Tokens.{Token, Id, ClassWord, ExtendsWord, SuperWord, ThisWord, ReturnWord, OpenBrace, CloseBrace, OpenParen, CloseParen, Semicolon, Comma, Dot, Equals}
 
@@ -126,6 +127,7 @@ abbrev pub numbered : {A B : Type 0} → (ℕ → A → B) → ℕ → List A �
 numbered f n [] = []
 numbered f n (x ∷ xs) = f n x ∷ numbered f (n + 1) xs
 
+-- a field by itself, whose alt is 0
 abbrev pub value_field : List (List ℕ) → Declared → Field
 value_field features d = record { alt = 0; colors = colors_of features d.marks; of = d.of; name = d.name }
 
@@ -143,6 +145,7 @@ value_ctor features k =
       assigns = numbered (value_sent features) 0 k.assigns;
     }
 
+-- a method by itself, whose alt is 0
 abbrev pub value_method : List (List ℕ) → MethodTree → Method
 value_method features m =
     record {
@@ -156,7 +159,14 @@ value_method features m =
 
 abbrev pub value_class : List (List ℕ) → ClassTree → Class
 value_class features k =
-    record { name = k.name; colors = colors_of features k.marks; parent = k.parent; fields = map (value_field features) k.fields; ctor = value_ctor features k; methods = map (value_method features) k.methods }
+    record {
+      name = k.name;
+      colors = colors_of features k.marks;
+      parent = k.parent;
+      fields = numbered_fields (map (value_field features) k.fields);
+      ctor = value_ctor features k;
+      methods = numbered_methods (map (value_method features) k.methods);
+    }
 
 -- the product line that a tree stands for; it is numbered
 abbrev pub value : Tree → ProductLine

@@ -3,6 +3,7 @@ use Rattle.std.specs.Prelude.{ℕ, Bool, true, false, not, ◌&&◌, ◌==◌, n
 use Rattle.std.specs.List.{list_any}
 use Rattle.std.specs.Str.{bytes_eq}
 use Rattle.cfj_model.specs.LookUps.{Table, all_fields, ancestors, chain, field_called, field_of, first_some, is_known, is_subtype, method_called, method_of}
+use Rattle.cfj_model.specs.Members.{Placed, placed, is_again, field_name_of, method_name_of}
 use Rattle.cfj_model.specs.Typing.{Environment, param_types, this}
 use Rattle.cfj_words.specs.Lists.{Has}
 use Rattle.cfj_model.specs.declared.class.Class.{Class}
@@ -14,7 +15,7 @@ use Rattle.cfj_model.specs.declared.expr.Expr.{Expr}
 use Rattle.cfj_model.specs.declared.expr.Expr.TheOpen.{Expr-F}
 use Rattle.cfj_model.specs.declared.expr.Expr.TheFolds.{fold-Expr}
 use Rattle.cfj_model.specs.declared.site.Rule.{Rule}
-use Rattle.cfj_model.specs.declared.site.Rule.TheVariants.{K1, K2, K3, K4, K5, K6, K7, K8, E1, E2, E3, E4, E5, E6, E7, E8}
+use Rattle.cfj_model.specs.declared.site.Rule.TheVariants.{K1, K2, K3, K4, K5, K6, K7, K8, K9, E1, E2, E3, E4, E5, E6, E7, E8}
 use Rattle.cfj_model.specs.declared.site.Site.{Site}
 use Rattle.cfj_model.specs.declared.site.Site.TheVariants as site
 
@@ -28,7 +29,7 @@ pub record RuleAt : Type 0 where
 abbrev pub Ruling : Type 0
 Ruling = Rule × Bool
 
--- the order of the rules at one site: K1 to K8, then E1 to E8
+-- the order of the rules at one site: K1 to K9, then E1 to E8
 abbrev pub rank : Rule → ℕ
 rank K1 = 1
 rank K2 = 2
@@ -38,14 +39,15 @@ rank K5 = 5
 rank K6 = 6
 rank K7 = 7
 rank K8 = 8
-rank E1 = 9
-rank E2 = 10
-rank E3 = 11
-rank E4 = 12
-rank E5 = 13
-rank E6 = 14
-rank E7 = 15
-rank E8 = 16
+rank K9 = 9
+rank E1 = 10
+rank E2 = 11
+rank E3 = 12
+rank E4 = 13
+rank E5 = 14
+rank E6 = 15
+rank E7 = 16
+rank E8 = 17
 
 -- one more item in its place by rank, behind those that rank lower
 abbrev pub insert_ranked : {A : Type 0} → (A → ℕ) → A → List A → List A
@@ -205,10 +207,13 @@ judged_expr p g = fold-Expr JudgedExpr JudgedExpr (judged_step p g) judged_arg
 
 -- ---- declarations
 
-abbrev pub judged_field : Table → Class → Field → List RuleAt
+-- a field, with those before it in its class
+abbrev pub judged_field : Table → Class → Placed Field → List RuleAt
 judged_field p k f =
-    judged_at (site.Field k.name f.name f.alt)
-    ((K1, not (is_known p f.of)) ∷ (K3, list_any (λ a. is_some (field_called f.name a)) (ancestors p k.name)) ∷ [])
+    judged_at (site.Field k.name f.item.name f.item.alt)
+    ((K1, not (is_known p f.item.of))
+    ∷ (K3, list_any (λ a. is_some (field_called f.item.name a)) (ancestors p k.name))
+    ∷ (K9, is_again field_name_of f) ∷ [])
 
 -- the parameters of the constructor are the fields, by types and by names
 abbrev pub takes_fields : List Param → List Field → Bool
@@ -235,13 +240,16 @@ is_no_result p m (Some t) = not (is_subtype p t m.result)
 abbrev pub environment_of : Class → Method → Environment
 environment_of k m = record { class = k.name; params = m.params }
 
-abbrev pub judged_method : Table → Class → Method → List RuleAt
-judged_method p k m =
+-- a method, with those before it in its class
+abbrev pub judged_method : Table → Class → Placed Method → List RuleAt
+judged_method p k placed_method =
+    let m : Method = placed_method.item in
     let body : JudgedExpr = judged_expr p (environment_of k m) m.body in
     judged_at (site.Method k.name m.name m.alt)
     ((K1, not (is_known p m.result))
     ∷ (K7, is_overridden_wrongly m (first_some (method_called m.name) (ancestors p k.name)))
-    ∷ (K8, is_no_result p m body.type) ∷ [])
+    ∷ (K8, is_no_result p m body.type)
+    ∷ (K9, is_again method_name_of placed_method) ∷ [])
     ++ (flat_map (λ (q : Param). judged_at (site.Param k.name m.name m.alt q.slot) ((K1, not (is_known p q.of)) ∷ [])) m.params
     ++ flat_map (λ (n : ℕ × List Ruling). judged_at (site.Node k.name m.name m.alt n.0) n.1) (body.rules []))
 
@@ -252,7 +260,7 @@ extends_itself p k = list_any (λ a. bytes_eq a.parent k.name) (chain p k.name)
 abbrev pub judged_class : Table → Class → List RuleAt
 judged_class p k =
     judged_at (site.Class k.name) ((K1, not (is_known p k.parent)) ∷ (K2, extends_itself p k) ∷ [])
-    ++ (flat_map (judged_field p k) k.fields ++ (judged_ctor p k ++ flat_map (judged_method p k) k.methods))
+    ++ (flat_map (judged_field p k) (placed k.fields) ++ (judged_ctor p k ++ flat_map (judged_method p k) (placed k.methods)))
 
 -- all pairs of a project, in the order of the text, the rules of a site in their order
 unfoldable pub judged : Table → List RuleAt

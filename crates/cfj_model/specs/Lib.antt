@@ -7,6 +7,7 @@ pub mod Grammar
 pub mod Judging
 pub mod LookUps
 pub mod Marks
+pub mod Members
 pub mod Numbered
 pub mod Paths
 pub mod Print

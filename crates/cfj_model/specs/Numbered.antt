@@ -1,10 +1,11 @@
--- Numbered product lines: slots run in the order of the text. So are those that a text stands for.
+-- Numbered product lines: slots run in the order of the text, and alts count the namesakes before. So are those that a text stands for.
 use Rattle.std.specs.Prelude.{◌≡◌, ℕ, ◌+◌, Bool, true, ◌&&◌, ◌==◌, List, [], ◌∷◌, map}
 use Rattle.std.specs.List.{list_all}
 use Rattle.cfj_model.specs.declared.class.Class.{Class}
 use Rattle.cfj_model.specs.declared.class.Constructor.{Constructor}
 use Rattle.cfj_model.specs.declared.class.Method.{Method}
 use Rattle.cfj_model.specs.Expressions.{slots}
+use Rattle.cfj_model.specs.Members.{are_fields_numbered, are_methods_numbered}
 use Rattle.cfj_model.specs.ProductLines.{ProductLine}
 
 -- these numbers are `first`, `first + 1`, `first + 2` ..
@@ -21,8 +22,8 @@ abbrev pub is_numbered_method : Method → Bool
 is_numbered_method m = run_from 0 (map (λ p. p.slot) m.params) && run_from 0 (slots m.body)
 
 abbrev pub is_numbered_class : Class → Bool
-is_numbered_class k = is_numbered_ctor k.ctor && list_all is_numbered_method k.methods
+is_numbered_class k = are_fields_numbered k.fields && is_numbered_ctor k.ctor && are_methods_numbered k.methods && list_all is_numbered_method k.methods
 
--- all slots of the product line run in the order of its text
+-- all slots and alts of the product line are as its text has them
 abbrev pub IsNumbered : ProductLine → Type 0
 IsNumbered line = list_all is_numbered_class line.classes ≡ true

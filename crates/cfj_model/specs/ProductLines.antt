@@ -4,6 +4,7 @@ use Rattle.std.specs.List.{list_all}
 use Rattle.std.specs.Str.{bytes_eq}
 use Rattle.cfj_words.specs.Names.{is_among, is_short_identifier}
 use Rattle.cfj_model.specs.Expressions.{are_known, is_bare, is_named, nest, node_count, slots}
+use Rattle.cfj_model.specs.Members.{field_alts_rise, method_alts_rise}
 use Rattle.cfj_logic.specs.Formulas.{is_over, formula_nest, formula_node_count}
 use Rattle.cfj_logic.specs.declared.formula.Formula.{Formula}
 use Rattle.cfj_model.specs.declared.class.Method.{Method}
@@ -70,7 +71,7 @@ rise_from least [] = true
 rise_from least (s ∷ ss) = nat_le least s && rise_from (s + 1) ss
 
 abbrev pub is_field : ℕ → Field → Bool
-is_field features f = f.alt == 0 && are_known features f.colors && is_short_identifier f.of && is_short_identifier f.name
+is_field features f = are_known features f.colors && is_short_identifier f.of && is_short_identifier f.name
 
 abbrev pub is_param : ℕ → Param → Bool
 is_param features p = are_known features p.colors && is_short_identifier p.of && is_short_identifier p.name
@@ -80,13 +81,13 @@ is_sent features s = are_known features s.colors && is_short_identifier s.name
 
 -- parameters, at most so many
 abbrev pub are_params : ℕ → ℕ → List Param → Bool
-are_params most features ps = nat_le (length ps) most && are_distinct (map (λ p. p.name) ps) && rise_from 0 (map (λ p. p.slot) ps) && list_all (is_param features) ps
+are_params most features ps = nat_le (length ps) most && rise_from 0 (map (λ p. p.slot) ps) && list_all (is_param features) ps
 
 abbrev pub are_sents : ℕ → List Sent → Bool
 are_sents features ss = nat_le (length ss) most_in_ctor && rise_from 0 (map (λ s. s.slot) ss) && list_all (is_sent features) ss
 
 abbrev pub are_fields : ℕ → List Field → Bool
-are_fields features fs = nat_le (length fs) most_fields && are_distinct (map (λ f. f.name) fs) && list_all (is_field features) fs
+are_fields features fs = nat_le (length fs) most_fields && field_alts_rise fs && list_all (is_field features) fs
 
 abbrev pub is_ctor : ℕ → Constructor → Bool
 is_ctor features c = are_params most_in_ctor features c.params && are_sents features c.sends && are_sents features c.assigns
@@ -95,10 +96,16 @@ abbrev pub is_body : ℕ → Expr → Bool
 is_body features e = is_named features e && nat_le (node_count e) most_nodes && nat_le (nest e) most_nest && rise_from 0 (slots e)
 
 unfoldable pub is_method : ℕ → Method → Bool
-is_method features m = m.alt == 0 && are_known features m.colors && is_short_identifier m.result && is_short_identifier m.name && are_params most_params features m.params && is_body features m.body
+is_method features m =
+    are_known features m.colors
+    && is_short_identifier m.result
+    && is_short_identifier m.name
+    && are_params most_params features m.params
+    && are_distinct (map (λ p. p.name) m.params)
+    && is_body features m.body
 
 abbrev pub are_methods : ℕ → List Method → Bool
-are_methods features ms = nat_le (length ms) most_methods && are_distinct (map (λ m. m.name) ms) && list_all (is_method features) ms
+are_methods features ms = nat_le (length ms) most_methods && method_alts_rise ms && list_all (is_method features) ms
 
 -- what a project keeps of a class by itself
 unfoldable pub is_class : ℕ → Class → Bool

@@ -32,8 +32,9 @@ pub data Role : Type 0 where
   node : Role
   other_token : Role
 
--- What has been met before a place: the features, the nodes of all formulas, the marks of the node in hand, all class names, the
--- names of the class in hand, the parameters of the list in hand, the nodes of the body in hand, and the size. Marks end at a name
+-- What has been met before a place: the features, the nodes of all formulas, the marks of the node in hand, all class names, how
+-- many members, parameters, sent names and assignments the class in hand has, the names of the parameters of the method in hand, the
+-- nodes of the body in hand, and the size. Marks end at a name
 -- that is declared or used, at a bracket that opens and at the own token of an expression's node: what else stands between, as
 -- `class` or `this`, ends none.
 pub record Tally : Type 0 where
@@ -41,11 +42,12 @@ pub record Tally : Type 0 where
   pub formula_nodes : ℕ
   pub marks : List (List ℕ)
   pub classes : List (List ℕ)
-  pub fields : List (List ℕ)
-  pub methods : List (List ℕ)
-  pub params : List (List ℕ)
+  pub fields : ℕ
+  pub methods : ℕ
+  pub params : ℕ
   pub sends : ℕ
   pub assigns : ℕ
+  pub param_names : List (List ℕ)
   pub nodes : ℕ
   pub size : ℕ
 
@@ -57,11 +59,12 @@ nothing =
       formula_nodes = 0;
       marks = [];
       classes = [];
-      fields = [];
-      methods = [];
-      params = [];
+      fields = 0;
+      methods = 0;
+      params = 0;
       sends = 0;
       assigns = 0;
+      param_names = [];
       nodes = 0;
       size = 0;
     }
@@ -76,11 +79,22 @@ counted t (feature_name w) = record t { features = t.features ++ w ∷ [] }
 counted t (mark_name w) = record t { marks = t.marks ++ w ∷ [] }
 counted t (formula_name w) = record t { formula_nodes = t.formula_nodes + 1 }
 counted t (class_name w) =
-    record t { marks = []; classes = t.classes ++ w ∷ []; fields = []; methods = []; params = []; sends = 0; assigns = 0; nodes = 0; size = t.size + 1 }
-counted t (field_name w) = record t { marks = []; fields = t.fields ++ w ∷ []; size = t.size + 1 }
-counted t (method_name w) = record t { marks = []; methods = t.methods ++ w ∷ []; params = []; nodes = 0; size = t.size + 1 }
-counted t (param_name w) = record t { marks = []; params = t.params ++ w ∷ []; size = t.size + 1 }
-counted t (method_param_name w) = record t { marks = []; params = t.params ++ w ∷ []; size = t.size + 1 }
+    record t {
+      marks = [];
+      classes = t.classes ++ w ∷ [];
+      fields = 0;
+      methods = 0;
+      params = 0;
+      sends = 0;
+      assigns = 0;
+      param_names = [];
+      nodes = 0;
+      size = t.size + 1;
+    }
+counted t (field_name w) = record t { marks = []; fields = t.fields + 1; size = t.size + 1 }
+counted t (method_name w) = record t { marks = []; methods = t.methods + 1; param_names = []; nodes = 0; size = t.size + 1 }
+counted t (param_name w) = record t { marks = []; params = t.params + 1; size = t.size + 1 }
+counted t (method_param_name w) = record t { marks = []; param_names = t.param_names ++ w ∷ []; size = t.size + 1 }
 counted t (sent_name w) = record t { marks = []; sends = t.sends + 1; size = t.size + 1 }
 counted t (assigned_name w) = record t { marks = []; assigns = t.assigns + 1; size = t.size + 1 }
 counted t (var_name w) = with_node t
@@ -151,12 +165,12 @@ broken_by t (formula_name w) = first_of (too_long w ∷ is_no_feature t w ∷ pa
 broken_by t (class_name w) =
     first_of (is_object w ∷ too_long w ∷ is_repeated t.classes w ∷ is_past most_classes (length t.classes) limit.Classes ∷ past_size t ∷ [])
 broken_by t (field_name w) =
-    first_of (too_long w ∷ is_repeated t.fields w ∷ is_past most_fields (length t.fields) limit.Fields ∷ past_size t ∷ [])
+    first_of (too_long w ∷ is_past most_fields t.fields limit.Fields ∷ past_size t ∷ [])
 broken_by t (method_name w) =
-    first_of (too_long w ∷ is_repeated t.methods w ∷ is_past most_methods (length t.methods) limit.Methods ∷ past_size t ∷ [])
-broken_by t (param_name w) = first_of (too_long w ∷ is_repeated t.params w ∷ past_ctor (length t.params) ∷ past_size t ∷ [])
+    first_of (too_long w ∷ is_past most_methods t.methods limit.Methods ∷ past_size t ∷ [])
+broken_by t (param_name w) = first_of (too_long w ∷ past_ctor t.params ∷ past_size t ∷ [])
 broken_by t (method_param_name w) =
-    first_of (too_long w ∷ is_repeated t.params w ∷ is_past most_params (length t.params) limit.Params ∷ past_size t ∷ [])
+    first_of (too_long w ∷ is_repeated t.param_names w ∷ is_past most_params (length t.param_names) limit.Params ∷ past_size t ∷ [])
 broken_by t (sent_name w) = first_of (too_long w ∷ past_ctor t.sends ∷ past_size t ∷ [])
 broken_by t (assigned_name w) = first_of (too_long w ∷ past_ctor t.assigns ∷ past_size t ∷ [])
 broken_by t (var_name w) = first_of (too_long w ∷ past_nodes t ∷ past_size t ∷ [])

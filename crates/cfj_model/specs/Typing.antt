@@ -1,7 +1,7 @@
 -- Featherweight Java (Igarashi, Pierce, Wadler, TOPLAS 23(3), 2001): its typing as the least relations closed under the rules.
 use Rattle.std.specs.Prelude.{◌≡◌, ℕ, true, false, List, [], ◌∷◌, ◌++◌, map, flat_map, find, codes, Some, None}
 use Rattle.std.specs.Str.{bytes_eq}
-use Rattle.cfj_model.specs.ProductLines.{object}
+use Rattle.cfj_model.specs.ProductLines.{object, are_distinct}
 use Rattle.cfj_model.specs.LookUps.{Table, declared, method_called, is_known}
 use Rattle.cfj_words.specs.Lists.{Has}
 use Rattle.cfj_model.specs.declared.class.Class.{Class}
@@ -33,9 +33,9 @@ pub data HasFields (p : Table) : List ℕ → List Field → Type 0 where
 abbrev pub param_types : List Param → List (List ℕ)
 param_types ps = map (λ p. p.of) ps
 
--- mtype(m, C): the method's parameter types and its result, of C or of the nearest ancestor that declares it
+-- mtype(m, C): the parameter types and the result of a declaration of m in C, or, where C has none, in the nearest ancestor with one
 pub data HasMethodType (p : Table) (m : List ℕ) : List ℕ → List (List ℕ) → List ℕ → Type 0 where
-  mt_class : (c : List ℕ) (k : Class) (d : Method) → declared p c ≡ Some k → method_called m k ≡ Some d
+  mt_class : (c : List ℕ) (k : Class) (d : Method) → declared p c ≡ Some k → Has k.methods d → d.name ≡ m
       → HasMethodType p m c (param_types d.params) d.result
   mt_super : (c : List ℕ) (k : Class) (ts : List (List ℕ)) (r : List ℕ) → declared p c ≡ Some k → method_called m k ≡ None
       → HasMethodType p m k.parent ts r → HasMethodType p m c ts r
@@ -128,6 +128,8 @@ pub record IsTableOk (p : Table) : Type 0 where
   pub acyclic : (c d : List ℕ) → Extends p c d → IsSubtype p d c → ⊥
   pub apart : (k a : Class) → Has p k → Has p a → IsSubtype p k.name a.name → bytes_eq k.name a.name ≡ false
       → (f g : Field) → Has k.fields f → Has a.fields g → bytes_eq f.name g.name ≡ false
+  pub fields_alone : (k : Class) → Has p k → are_distinct (map (λ f. f.name) k.fields) ≡ true
+  pub methods_alone : (k : Class) → Has p k → are_distinct (map (λ m. m.name) k.methods) ≡ true
 
 -- a program is well typed: its table and every class are OK
 pub record IsWellTyped (p : Table) : Type 0 where

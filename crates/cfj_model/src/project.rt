@@ -13,7 +13,8 @@ use std::sync::Arc;
 
 /// A product line: a feature model, and classes whose nodes may be marked with its features.
 ///
-/// Its type keeps the limits, unique names, known features, that no class is named `Object`, and slots that rise.
+/// Its type keeps the limits, unique names of features, of classes and of the parameters of a method, known features, that no class
+/// is named `Object`, and that slots rise, as do the alts of the members of one name.
 #[derive(Debug, Drop)]
 pub struct Project {
     model: Arc<FeatureModel>,

@@ -55,6 +55,8 @@ pub enum Rule {
     K7,
     /// A body has a subtype of the result.
     K8,
+    /// No member of its kind and name stands before a field or a method.
+    K9,
     /// A variable is `this` or a parameter.
     E1,
     /// A field that is accessed is there.
@@ -101,7 +103,7 @@ impl Site {
 }
 
 impl Rule {
-    /// The rule's place in the order of the rules at one site: K1 to K8, then E1 to E8.
+    /// The rule's place in the order of the rules at one site: K1 to K9, then E1 to E8.
     pub fn rank(self) -> u8
         ensures { result ≡ rank self }
     {
@@ -114,14 +116,15 @@ impl Rule {
             Rule::K6 => 6,
             Rule::K7 => 7,
             Rule::K8 => 8,
-            Rule::E1 => 9,
-            Rule::E2 => 10,
-            Rule::E3 => 11,
-            Rule::E4 => 12,
-            Rule::E5 => 13,
-            Rule::E6 => 14,
-            Rule::E7 => 15,
-            Rule::E8 => 16,
+            Rule::K9 => 9,
+            Rule::E1 => 10,
+            Rule::E2 => 11,
+            Rule::E3 => 12,
+            Rule::E4 => 13,
+            Rule::E5 => 14,
+            Rule::E6 => 15,
+            Rule::E7 => 16,
+            Rule::E8 => 17,
         }
     }
 }

@@ -12,6 +12,7 @@ use Rattle.cfj_logic.specs.declared.formula.Formula.{Formula}
 use Rattle.cfj_model.specs.Grammar.{constraint_word, features_word}
 use Rattle.cfj_model.specs.ProductLines.{ProductLine}
 use Rattle.cfj_model.specs.Marks.{color_of}
+use Rattle.cfj_model.specs.Members.{numbered_fields, numbered_methods}
 use Rattle.cfj_words.specs.Tokens.{Token, Id, ClassWord, ExtendsWord, SuperWord, ThisWord, ReturnWord, OpenBrace, CloseBrace, OpenParen, CloseParen, Semicolon, Comma, Dot, Equals, At, End}
 use Rattle.cfj_model.specs.Roles.{Role, feature_name, mark_name, class_name, field_name, method_name, param_name, method_param_name, sent_name, assigned_name, used_name, other_token}
 use Rattle.formula_reader.specs.Machine as formula
@@ -156,7 +157,15 @@ with_method s x = record s { mode = AfterBody; methods = s.methods ++ method_of 
 
 -- the class in hand
 abbrev pub class_of : State → Class
-class_of s = record { name = s.name; colors = s.class_colors; parent = s.parent; fields = s.fields; ctor = s.ctor; methods = s.methods }
+class_of s =
+    record {
+      name = s.name;
+      colors = s.class_colors;
+      parent = s.parent;
+      fields = numbered_fields s.fields;
+      ctor = s.ctor;
+      methods = numbered_methods s.methods;
+    }
 
 -- the class in hand is whole
 abbrev pub with_class : State → State

@@ -1,2 +1,3 @@
 pub mod ExprCases
+pub mod Members
 mod Paths

@@ -1,5 +1,5 @@
 -- What a list that keeps some of its items, each changed, has of the list that it came from.
-use Rattle.std.proofs.Common.{◌≡◌, refl, sym, ap, ◌∙◌, ℕ, ◌+◌, ◌≤◌, Bool, true, false, not, ◌||◌, nat_le, List, [], ◌∷◌, ◌++◌, length, map, drop, cond, if◌then◌else◌, slice_get, Some, arith}
+use Rattle.std.proofs.Common.{◌≡◌, refl, sym, ap, ◌∙◌, ℕ, ◌+◌, ◌≤◌, Bool, true, false, not, ◌||◌, nat_le, nat_lt, List, [], ◌∷◌, ◌++◌, length, map, drop, cond, if◌then◌else◌, slice_get, Some, arith}
 use Rattle.std.specs.List.{filter, list_all, sum_by}
 use Rattle.std.specs.Str.{bytes_eq}
 use Rattle.std.proofs.lemmas.Bool.{leb-true, le-leb, and_parts, and_from}
@@ -7,6 +7,7 @@ use Rattle.std.proofs.lemmas.List.{append_assoc, drop_more}
 use Rattle.std.proofs.lemmas.Option.{get_or_from_slice_get, slice_get_within}
 use Rattle.std.proofs.lemmas.List.Sums.{sum_by-cons}
 use Rattle.std.proofs.lemmas.List.Folds.{list_any-append}
+use Rattle.cfj_model.specs.Members.{alts_rise}
 use Rattle.cfj_model.specs.ProductLines.{are_new, are_distinct, rise_from}
 use Rattle.cfj_words.specs.Names.{is_among}
 
@@ -111,6 +112,31 @@ module _ {A B : Type 0} (made : A → B) (keeps : A → Bool) where
   -- distinct names stay distinct
   pub distinct_kept : (name : B → List ℕ) (xs : List A) → are_distinct (map (λ x. name (made x)) xs) ≡ true → are_distinct (map name (kept xs)) ≡ true
   distinct_kept name xs e = new_kept name xs [] [] (λ n none. none) e
+
+  -- what each item's pair of a name and an alt has, that of each kept item has
+  pairs_kept : (named : B → List ℕ × ℕ) (p : List ℕ × ℕ → Bool) (xs : List A) → list_all p (map (λ x. named (made x)) xs) ≡ true → list_all p (map named (kept xs)) ≡ true
+  pairs_kept named p [] e = refl
+  pairs_kept named p (x ∷ xs) e =
+      let here = p (named (made x)) in
+      let parts = and_parts here (list_all p (map (λ y. named (made y)) xs)) e in
+      let rest = pairs_kept named p xs parts.1 in
+      elim (keeps x) as (λ b. list_all p (map named (kept_by b x xs)) ≡ true) [
+        | true ↦ and_from here (list_all p (map named (kept xs))) parts.0 rest
+        | false ↦ rest
+      ]
+
+  -- alts that rise among the items of one name still rise
+  pub alts_kept : (named : B → List ℕ × ℕ) (xs : List A) → alts_rise (map (λ x. named (made x)) xs) ≡ true → alts_rise (map named (kept xs)) ≡ true
+  alts_kept named [] e = refl
+  alts_kept named (x ∷ xs) e =
+      let m = named (made x) in
+      let after : List ℕ × ℕ → Bool = λ n. not (bytes_eq n.0 m.0) || nat_lt m.1 n.1 in
+      let parts = and_parts (list_all after (map (λ y. named (made y)) xs)) (alts_rise (map (λ y. named (made y)) xs)) e in
+      let rest = alts_kept named xs parts.1 in
+      elim (keeps x) as (λ b. alts_rise (map named (kept_by b x xs)) ≡ true) [
+        | true ↦ and_from (list_all after (map named (kept xs))) (alts_rise (map named (kept xs))) (pairs_kept named after xs parts.0) rest
+        | false ↦ rest
+      ]
 
   rise_above : (slot : B → ℕ) (xs : List A) (low least : ℕ) → low ≤ least → rise_from least (map (λ x. slot (made x)) xs) ≡ true → rise_from low (map slot (kept xs)) ≡ true
   rise_above slot [] low least le e = refl

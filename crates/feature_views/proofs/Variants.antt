@@ -13,11 +13,12 @@ use Rattle.cfj_model.specs.declared.class.Class.{Class}
 use Rattle.cfj_model.specs.declared.expr.Expr.{Expr}
 use Rattle.cfj_model.specs.declared.feature_model.FeatureModel.{FeatureModel}
 use Rattle.cfj_model.specs.Expressions.{are_known, is_named, nest, node_count, slots}
+use Rattle.cfj_model.specs.Members.{field_alts_rise, method_alts_rise}
 use Rattle.cfj_model.specs.ProductLines.{ProductLine, IsProject, IsPlain, object, most_fields, most_in_ctor, most_methods, most_params, most_nodes, most_nest, most_classes, most_size, are_distinct, rise_from, is_field, is_param, is_sent, are_fields, are_params, are_sents, is_ctor, is_body, is_method, are_methods, is_class, method_size, class_size, is_plain_method, is_plain_class}
 use Rattle.cfj_model.specs.Projection.{presence_of, is_present, bare_field, bare_param, bare_sent, present_fields, present_params, present_sents, present_methods, projected_ctor, projected_expr, projected_method, projected_class, projected}
 use Rattle.cfj_logic.specs.Selections.{Chosen}
 use Rattle.feature_views.specs.Selected.{present_classes}
-use Rattle.feature_views.proofs.Kept.{at_most, length_kept, few_kept, sum_kept, small_kept, distinct_kept, rise_kept, all_kept, all_made}
+use Rattle.feature_views.proofs.Kept.{at_most, length_kept, few_kept, sum_kept, small_kept, distinct_kept, alts_kept, rise_kept, all_kept, all_made}
 use Rattle.feature_views.proofs.KeptBodies.{stays_named, becomes_bare, loses_nodes, stays_shallow, keeps_slots}
 use Rattle.feature_views.proofs.Sublists.{rise_sublist}
 
@@ -30,14 +31,8 @@ unmarked_3 known b c e =
     let outer = and_parts (known && b) c e in
     and_from b c (unmarked_2 known b outer.0) outer.1
 
-unmarked_4 : (a known b c : Bool) → (a && known && b && c) ≡ true → (a && true && b && c) ≡ true
-unmarked_4 a known b c e =
-    let outer = and_parts (a && known && b) c e in
-    let inner = and_parts (a && known) b outer.0 in
-    and_from (a && true && b) c (and_from (a && true) b (and_from a true (and_parts a known inner.0).0 refl) inner.1) outer.1
-
 bare_is_field : (features : ℕ) (f : Field) → is_field features f ≡ true → is_field 0 (bare_field f) ≡ true
-bare_is_field features f e = unmarked_4 (f.alt == 0) (are_known features f.colors) (is_short_identifier f.of) (is_short_identifier f.name) e
+bare_is_field features f e = unmarked_3 (are_known features f.colors) (is_short_identifier f.of) (is_short_identifier f.name) e
 
 bare_is_param : (features : ℕ) (p : Param) → is_param features p ≡ true → is_param 0 (bare_param p) ≡ true
 bare_is_param features p e = unmarked_3 (are_known features p.colors) (is_short_identifier p.of) (is_short_identifier p.name) e
@@ -49,26 +44,25 @@ module _ (s : Chosen) (around features : ℕ) where
   kept_fields : (fs : List Field) → are_fields features fs ≡ true → are_fields 0 (present_fields s around fs) ≡ true
   kept_fields fs e =
       let keeps : Field → Bool = λ f. is_present s (presence_of around f.colors) in
-      let outer = and_parts (nat_le (length fs) most_fields && are_distinct (map (λ (f : Field). f.name) fs)) (list_all (is_field features) fs) e in
-      let inner = and_parts (nat_le (length fs) most_fields) (are_distinct (map (λ (f : Field). f.name) fs)) outer.0 in
+      let outer = and_parts (nat_le (length fs) most_fields && field_alts_rise fs) (list_all (is_field features) fs) e in
+      let inner = and_parts (nat_le (length fs) most_fields) (field_alts_rise fs) outer.0 in
       and_from _ _
-      (and_from _ _ (few_kept bare_field keeps most_fields fs inner.0) (distinct_kept bare_field keeps (λ f. f.name) fs inner.1))
+      (and_from _ _ (few_kept bare_field keeps most_fields fs inner.0) (alts_kept bare_field keeps (λ f. (f.name, f.alt)) fs inner.1))
       (all_kept bare_field keeps (is_field features) (is_field 0) (bare_is_field features) fs outer.1)
 
   kept_params : (most : ℕ) (ps : List Param) → are_params most features ps ≡ true → are_params most 0 (present_params s around ps) ≡ true
   kept_params most ps e =
       let keeps : Param → Bool = λ p. is_present s (presence_of around p.colors) in
       let few = nat_le (length ps) most in
-      let distinct = are_distinct (map (λ (p : Param). p.name) ps) in
       let rise = rise_from 0 (map (λ (p : Param). p.slot) ps) in
-      let outer = and_parts (few && distinct && rise) (list_all (is_param features) ps) e in
-      let middle = and_parts (few && distinct) rise outer.0 in
-      let inner = and_parts few distinct middle.0 in
+      let outer = and_parts (few && rise) (list_all (is_param features) ps) e in
+      let inner = and_parts few rise outer.0 in
       and_from _ _
-      (and_from _ _
-      (and_from _ _ (few_kept bare_param keeps most ps inner.0) (distinct_kept bare_param keeps (λ p. p.name) ps inner.1))
-      (rise_kept bare_param keeps (λ p. p.slot) ps middle.1))
+      (and_from _ _ (few_kept bare_param keeps most ps inner.0) (rise_kept bare_param keeps (λ p. p.slot) ps inner.1))
       (all_kept bare_param keeps (is_param features) (is_param 0) (bare_is_param features) ps outer.1)
+
+  kept_param_names : (ps : List Param) → are_distinct (map (λ p. p.name) ps) ≡ true → are_distinct (map (λ p. p.name) (present_params s around ps)) ≡ true
+  kept_param_names ps e = distinct_kept bare_param (λ p. is_present s (presence_of around p.colors)) (λ p. p.name) ps e
 
   kept_sents : (ss : List Sent) → are_sents features ss ≡ true → are_sents 0 (present_sents s around ss) ≡ true
   kept_sents ss e =
@@ -112,26 +106,29 @@ module _ (s : Chosen) (around features : ℕ) where
   kept_method : (m : Method) → is_method features m ≡ true → is_method 0 (projected_method s around m) ≡ true
   unfolding is_method
   kept_method m e =
-      let single = m.alt == 0 in
       let known = are_known features m.colors in
       let result = is_short_identifier m.result in
       let named = is_short_identifier m.name in
       let params = are_params most_params features m.params in
-      let outer = and_parts (single && known && result && named && params) (is_body features m.body) e in
-      let inner = and_parts (single && known && result && named) params outer.0 in
+      let distinct = are_distinct (map (λ (p : Param). p.name) m.params) in
+      let outer = and_parts (known && result && named && params && distinct) (is_body features m.body) e in
+      let middle = and_parts (known && result && named && params) distinct outer.0 in
+      let inner = and_parts (known && result && named) params middle.0 in
       let within = presence_of around m.colors in
       and_from _ _
-      (and_from _ _ (unmarked_4 single known result named inner.0) (kept_params s within features most_params m.params inner.1))
+      (and_from _ _
+      (and_from _ _ (unmarked_3 known result named inner.0) (kept_params s within features most_params m.params inner.1))
+      (kept_param_names s within features m.params middle.1))
       (kept_body s within features m.body outer.1)
 
   kept_methods : (ms : List Method) → are_methods features ms ≡ true → are_methods 0 (present_methods s around ms) ≡ true
   kept_methods ms e =
       let keeps : Method → Bool = λ m. is_present s (presence_of around m.colors) in
       let made = projected_method s around in
-      let outer = and_parts (nat_le (length ms) most_methods && are_distinct (map (λ (m : Method). m.name) ms)) (list_all (is_method features) ms) e in
-      let inner = and_parts (nat_le (length ms) most_methods) (are_distinct (map (λ (m : Method). m.name) ms)) outer.0 in
+      let outer = and_parts (nat_le (length ms) most_methods && method_alts_rise ms) (list_all (is_method features) ms) e in
+      let inner = and_parts (nat_le (length ms) most_methods) (method_alts_rise ms) outer.0 in
       and_from _ _
-      (and_from _ _ (few_kept made keeps most_methods ms inner.0) (distinct_kept made keeps (λ m. m.name) ms inner.1))
+      (and_from _ _ (few_kept made keeps most_methods ms inner.0) (alts_kept made keeps (λ m. (m.name, m.alt)) ms inner.1))
       (all_kept made keeps (is_method features) (is_method 0) kept_method ms outer.1)
 
 kept_class : (s : Chosen) (features : ℕ) (k : Class) → is_class features k ≡ true → is_class 0 (projected_class s k) ≡ true

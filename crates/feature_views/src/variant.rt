@@ -11,7 +11,7 @@ use std::alloc::{AllocError, Global};
 use std::sync::Arc;
 
 /// The variant of a selection of the project's features: each node stays where its own colours and those of the optional
-/// nodes round it are all selected (Kästner, Apel, Kuhlemann, ICSE 2008). Slots are kept; colours and features are dropped.
+/// nodes round it are all selected (Kästner, Apel, Kuhlemann, ICSE 2008). Slots and alts are kept; colours and features are dropped.
 ///
 /// Fails only where there is no memory for the variant.
 pub fn project(

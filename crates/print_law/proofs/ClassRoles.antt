@@ -30,9 +30,9 @@ use Rattle.print_law.proofs.FormulaTrees.{tree_of_formula}
 use Rattle.print_law.proofs.Limits.{used_ok, feature_ok, class_ok, field_ok, method_ok, param_ok, method_param_ok, sent_ok, assigned_ok}
 use Rattle.print_law.proofs.MarkTexts.{marks_within}
 
--- names and a number may be written in another way
-moved : (P : List (List ℕ) → ℕ → Type 0) (xs ys : List (List ℕ)) (m n : ℕ) → xs ≡ ys → m ≡ n → P xs m → P ys n
-moved P xs ys m n e f h = subst (λ zs. P zs n) e (subst (P xs) f h)
+-- two numbers may be written in another way
+moved : (P : ℕ → ℕ → Type 0) (k l m n : ℕ) → k ≡ l → m ≡ n → P k m → P l n
+moved P k l m n e f h = subst (λ i. P i n) e (subst (P k) f h)
 
 -- the first of new names, and the others behind it
 new_first : (before : List (List ℕ)) (w : List ℕ) (ws : List (List ℕ)) → are_new before (w ∷ ws) ≡ true → (is_among before w ≡ false) × (are_new (before ++ w ∷ []) ws ≡ true)
@@ -44,99 +44,133 @@ module _ (features : List (List ℕ)) (distinct : are_distinct features ≡ true
 
   -- ---- fields
 
-  abbrev with_fields : Tally → List Role → List (List ℕ) → ℕ → Type 0
-  with_fields t rest ws n = AreWithin (record t { marks = []; fields = ws; size = n }) rest
+  abbrev with_fields : Tally → List Role → ℕ → ℕ → Type 0
+  with_fields t rest k n = AreWithin (record t { marks = []; fields = k; size = n }) rest
 
-  fields_within : (fs : List Field) (t : Tally) (rest : List Role) → list_all (is_field count) fs ≡ true → IsReady features t → are_new t.fields (map (λ f. f.name) fs) ≡ true → length t.fields + length fs ≤ most_fields → t.size + length fs ≤ most_size
-      → with_fields t rest (t.fields ++ map (λ f. f.name) fs) (t.size + length fs) → AreWithin t (in_order roles_field (map (tree_of_field features) fs) rest)
-  fields_within [] t rest h r new few fits w =
-      subst (λ ms. AreWithin (record t { marks = ms }) rest) (sym r.marks) (moved (with_fields t rest) _ _ _ _ (append-nil t.fields) (omega arith) w)
-  fields_within (f ∷ fs) t rest h r new few fits w =
+  fields_within : (fs : List Field) (t : Tally) (rest : List Role) → list_all (is_field count) fs ≡ true → IsReady features t → t.fields + length fs ≤ most_fields → t.size + length fs ≤ most_size
+      → with_fields t rest (t.fields + length fs) (t.size + length fs) → AreWithin t (in_order roles_field (map (tree_of_field features) fs) rest)
+  fields_within [] t rest h r few fits w =
+      subst (λ ms. AreWithin (record t { marks = ms }) rest) (sym r.marks) (moved (with_fields t rest) _ _ _ _ (omega arith) (omega arith) w)
+  fields_within (f ∷ fs) t rest h r few fits w =
       let p = and_parts (is_field count f) (list_all (is_field count) fs) h in
       let k = field_kept count f p.0 in
-      let n = new_first t.fields f.name (map (λ f. f.name) fs) new in
-      let u : Tally = record t { marks = []; fields = t.fields ++ f.name ∷ []; size = t.size + 1 } in
-      let longer : length (t.fields ++ f.name ∷ []) ≡ length t.fields + 1 = length-append t.fields (f.name ∷ []) in
+      let u : Tally = record t { marks = []; fields = t.fields + 1; size = t.size + 1 } in
       marks_within features f.colors t _ distinct well r
       (λ ms. (
         used_ok (record t { marks = ms }) f.of k.of,
         (
-          field_ok (record t { marks = [] }) f.name k.name n.0 (omega arith) (omega arith),
+          field_ok (record t { marks = [] }) f.name k.name (omega arith) (omega arith),
           (
             refl,
-            fields_within fs u rest p.1 (record { met = r.met; marks = refl }) n.1 (omega arith) (omega arith)
-                (moved (with_fields t rest) _ _ _ _ (sym (append_assoc t.fields (f.name ∷ []) (map (λ f. f.name) fs))) (omega arith) w),
+            fields_within fs u rest p.1 (record { met = r.met; marks = refl }) (omega arith) (omega arith) (moved (with_fields t rest) _ _ _ _ (omega arith) (omega arith) w),
           ),
         ),
       ))
 
   -- ---- parameters
 
-  abbrev with_params : Tally → List Role → List (List ℕ) → ℕ → Type 0
-  with_params t rest ws n = AreWithin (record t { marks = []; params = ws; size = n }) rest
-
-  -- the names of parameters in a role that is fine where there is room for one more
-  record IsParamRole (role : List ℕ → Role) (most : ℕ) : Type 0 where
-    fine : (t : Tally) (w : List ℕ) → is_short_identifier w ≡ true → is_among t.params w ≡ false → length t.params < most → t.size < most_size → broken_by t (role w) ≡ None
-    counts : (t : Tally) (w : List ℕ) → counted t (role w) ≡ record t { marks = []; params = t.params ++ w ∷ []; size = t.size + 1 }
-
-  module _ (role : List ℕ → Role) (most : ℕ) (is : IsParamRole role most) where
+  module _ (role : List ℕ → Role) where
     abbrev roles_one : Declared → List Role → List Role
     roles_one d rest = roles_marks d.marks (used_name d.of ∷ (role d.name ∷ rest))
 
-    record HasRoom (t : Tally) (ps : List Param) : Type 0 where
-      new : are_new t.params (map (λ p. p.name) ps) ≡ true
-      few : length t.params + length ps ≤ most
-      fits : t.size + length ps ≤ most_size
+    abbrev behind_params : Tally → List Param → Tally
+    behind_params t [] = t
+    behind_params t (p ∷ ps) = behind_params (counted t (role p.name)) ps
 
-    -- one of them
-    param_within : (p : Param) (ps : List Param) (t : Tally) (more : List Role) → is_param count p ≡ true → IsReady features t → HasRoom t (p ∷ ps)
-        → ((u : Tally) → u ≡ record t { marks = []; params = t.params ++ p.name ∷ []; size = t.size + 1 } → AreWithin u more)
-        → AreWithin t (roles_one (tree_of_param features p) more)
-    param_within p ps t more h r room w =
-        let k = param_kept count p h in
+    -- names of parameters in a role that ends the marks, and is fine where there is room for them
+    record IsParamRole (HasRoom : Tally → List Param → Type 0) : Type 0 where
+      ends : (t : Tally) (ms : List (List ℕ)) (w : List ℕ) → counted (record t { marks = ms }) (role w) ≡ counted t (role w)
+      ready : (t : Tally) (w : List ℕ) → IsReady features t → IsReady features (counted t (role w))
+      fine : (t : Tally) (p : Param) (ps : List Param) → is_short_identifier p.name ≡ true → HasRoom t (p ∷ ps) → broken_by (record t { marks = [] }) (role p.name) ≡ None
+      room : (t : Tally) (p : Param) (ps : List Param) → HasRoom t (p ∷ ps) → HasRoom (counted t (role p.name)) ps
+
+    module _ (HasRoom : Tally → List Param → Type 0) (is : IsParamRole HasRoom) where
+      params_behind : (ps : List Param) (t : Tally) (rest : List Role) → list_all (is_param count) ps ≡ true → IsReady features t → HasRoom t ps
+          → AreWithin (behind_params t ps) rest → AreWithin t (each_behind other_token roles_one (map (tree_of_param features) ps) rest)
+      params_behind [] t rest h r room w = w
+      params_behind (p ∷ ps) t rest h r room w =
+          let q = and_parts (is_param count p) (list_all (is_param count) ps) h in
+          let k = param_kept count p q.0 in
+          let more = each_behind other_token roles_one (map (tree_of_param features) ps) rest in
+          let others : AreWithin (counted t (role p.name)) more = params_behind ps (counted t (role p.name)) rest q.1 (is.ready t p.name r) (is.room t p ps room) w in (
+            refl,
+            marks_within features p.colors t _ distinct well r
+                (λ ms. (
+                  used_ok (record t { marks = ms }) p.of k.of,
+                  (
+                    is.fine t p ps k.name room,
+                    subst (λ u. AreWithin u more) (sym (is.ends t [] p.name)) others,
+                  ),
+                )),
+          )
+
+      params_within : (ps : List Param) (t : Tally) (rest : List Role) → list_all (is_param count) ps ≡ true → IsReady features t → HasRoom t ps
+          → AreWithin (behind_params t ps) rest → AreWithin t (separated other_token roles_one (map (tree_of_param features) ps) rest)
+      params_within [] t rest h r room w = w
+      params_within (p ∷ ps) t rest h r room w = let b = params_behind (p ∷ ps) t rest h r room w in b.1
+
+  -- those of a constructor are counted
+  record HasCtorRoom (t : Tally) (ps : List Param) : Type 0 where
+    few : t.params + length ps ≤ most_in_ctor
+    fits : t.size + length ps ≤ most_size
+
+  ctor_role : IsParamRole param_name HasCtorRoom
+  ctor_role = record {
+    ends = λ t ms w. refl;
+    ready = λ t w r. record { met = r.met; marks = refl };
+    fine = λ t p ps h room. let few = room.few in let fits = room.fits in param_ok (record t { marks = [] }) p.name h (omega arith) (omega arith);
+    room = λ t p ps room. let few = room.few in let fits = room.fits in record { few = omega arith; fits = omega arith };
+  }
+
+  ctor_params_behind : (ps : List Param) (t : Tally) → t.marks ≡ [] → behind_params param_name t ps ≡ record t { marks = []; params = t.params + length ps; size = t.size + length ps }
+  ctor_params_behind [] t m =
+      ap (λ ms. record t { marks = ms }) m
+      ∙ moved (λ k n. record t { marks = [] } ≡ record t { marks = []; params = k; size = n }) t.params (t.params + 0) t.size (t.size + 0) (omega arith) (omega arith) refl
+  ctor_params_behind (p ∷ ps) t m =
+      moved (λ k n. behind_params param_name t (p ∷ ps) ≡ record t { marks = []; params = k; size = n }) (t.params + 1 + length ps) (t.params + length (p ∷ ps)) (t.size + 1 + length ps) (t.size + length (p ∷ ps)) (omega arith) (omega arith)
+      (ctor_params_behind ps (counted t (param_name p.name)) refl)
+
+  ctor_params_within : (ps : List Param) (t : Tally) (rest : List Role) → list_all (is_param count) ps ≡ true → IsReady features t → HasCtorRoom t ps
+      → AreWithin (record t { marks = []; params = t.params + length ps; size = t.size + length ps }) rest → AreWithin t (separated other_token (roles_one param_name) (map (tree_of_param features) ps) rest)
+  ctor_params_within ps t rest h r room w =
+      params_within param_name HasCtorRoom ctor_role ps t rest h r room (subst (λ u. AreWithin u rest) (sym (ctor_params_behind ps t r.marks)) w)
+
+  -- those of a method are told apart by their names
+  record HasMethodRoom (t : Tally) (ps : List Param) : Type 0 where
+    new : are_new t.param_names (map (λ p. p.name) ps) ≡ true
+    few : length t.param_names + length ps ≤ most_params
+    fits : t.size + length ps ≤ most_size
+
+  method_role : IsParamRole method_param_name HasMethodRoom
+  method_role = record {
+    ends = λ t ms w. refl;
+    ready = λ t w r. record { met = r.met; marks = refl };
+    fine = λ t p ps h room.
         let few = room.few in
         let fits = room.fits in
-        marks_within features p.colors t _ distinct well r
-        (λ ms. (
-          used_ok (record t { marks = ms }) p.of k.of,
-          (
-            is.fine (record t { marks = [] }) p.name k.name (new_first t.params p.name (map (λ p. p.name) ps) room.new).0 (omega arith) (omega arith),
-            w _ (is.counts (record t { marks = [] }) p.name),
-          ),
-        ))
-
-    more_room : (p : Param) (ps : List Param) (t : Tally) → HasRoom t (p ∷ ps) → HasRoom (record t { marks = []; params = t.params ++ p.name ∷ []; size = t.size + 1 }) ps
-    more_room p ps t room =
-        let longer : length (t.params ++ p.name ∷ []) ≡ length t.params + 1 = length-append t.params (p.name ∷ []) in
+        method_param_ok (record t { marks = [] }) p.name h (new_first t.param_names p.name (map (λ p. p.name) ps) room.new).0 (omega arith) (omega arith);
+    room = λ t p ps room.
+        let longer : length (t.param_names ++ p.name ∷ []) ≡ length t.param_names + 1 = length-append t.param_names (p.name ∷ []) in
         let few = room.few in
         let fits = room.fits in
-        record { new = (new_first t.params p.name (map (λ p. p.name) ps) room.new).1; few = omega arith; fits = omega arith }
+        record { new = (new_first t.param_names p.name (map (λ p. p.name) ps) room.new).1; few = omega arith; fits = omega arith };
+  }
 
-    no_param : (t : Tally) (rest : List Role) → IsReady features t → with_params t rest (t.params ++ []) (t.size + 0) → AreWithin t rest
-    no_param t rest r w = subst (λ ms. AreWithin (record t { marks = ms }) rest) (sym r.marks) (moved (with_params t rest) _ _ _ _ (append-nil t.params) (omega arith) w)
+  method_params_behind : (ps : List Param) (t : Tally) → t.marks ≡ [] → behind_params method_param_name t ps ≡ record t { marks = []; param_names = t.param_names ++ map (λ p. p.name) ps; size = t.size + length ps }
+  method_params_behind [] t m =
+      ap (λ ms. record t { marks = ms }) m
+      ∙ ap (λ ws. record t { marks = []; param_names = ws }) (sym (append-nil t.param_names))
+      ∙ ap (λ n. record t { marks = []; param_names = t.param_names ++ []; size = n }) (let e : t.size ≡ t.size + 0 = omega arith in e)
+  method_params_behind (p ∷ ps) t m =
+      method_params_behind ps (counted t (method_param_name p.name)) refl
+      ∙ ap (λ ws. record t { marks = []; param_names = ws; size = t.size + 1 + length ps }) (append_assoc t.param_names (p.name ∷ []) (map (λ p. p.name) ps))
+      ∙ ap (λ n. record t { marks = []; param_names = t.param_names ++ map (λ p. p.name) (p ∷ ps); size = n }) (let e : t.size + 1 + length ps ≡ t.size + length (p ∷ ps) = omega arith in e)
 
-    params_behind : (ps : List Param) (t : Tally) (rest : List Role) → list_all (is_param count) ps ≡ true → IsReady features t → HasRoom t ps
-        → with_params t rest (t.params ++ map (λ p. p.name) ps) (t.size + length ps) → AreWithin t (each_behind other_token roles_one (map (tree_of_param features) ps) rest)
-    params_behind [] t rest h r room w = no_param t rest r w
-    params_behind (p ∷ ps) t rest h r room w =
-        let q = and_parts (is_param count p) (list_all (is_param count) ps) h in
-        let u : Tally = record t { marks = []; params = t.params ++ p.name ∷ []; size = t.size + 1 } in
-        let others : AreWithin u (each_behind other_token roles_one (map (tree_of_param features) ps) rest) =
-        params_behind ps u rest q.1 (record { met = r.met; marks = refl }) (more_room p ps t room)
-        (moved (with_params t rest) _ _ _ _ (sym (append_assoc t.params (p.name ∷ []) (map (λ p. p.name) ps))) (omega arith) w) in
-        (refl, param_within p ps t _ q.0 r room (λ v e. subst (λ x. AreWithin x (each_behind other_token roles_one (map (tree_of_param features) ps) rest)) (sym e) others))
-
-    params_within : (ps : List Param) (t : Tally) (rest : List Role) → list_all (is_param count) ps ≡ true → IsReady features t → HasRoom t ps
-        → with_params t rest (t.params ++ map (λ p. p.name) ps) (t.size + length ps) → AreWithin t (separated other_token roles_one (map (tree_of_param features) ps) rest)
-    params_within [] t rest h r room w = no_param t rest r w
-    params_within (p ∷ ps) t rest h r room w = let b = params_behind (p ∷ ps) t rest h r room w in b.1
-
-  ctor_role : IsParamRole param_name most_in_ctor
-  ctor_role = record { fine = param_ok; counts = λ t w. refl }
-
-  method_role : IsParamRole method_param_name most_params
-  method_role = record { fine = method_param_ok; counts = λ t w. refl }
+  method_params_within : (ps : List Param) (t : Tally) (rest : List Role) → list_all (is_param count) ps ≡ true → IsReady features t → HasMethodRoom t ps
+      → AreWithin (record t { marks = []; param_names = t.param_names ++ map (λ p. p.name) ps; size = t.size + length ps }) rest
+      → AreWithin t (separated other_token (roles_one method_param_name) (map (tree_of_param features) ps) rest)
+  method_params_within ps t rest h r room w =
+      params_within method_param_name HasMethodRoom method_role ps t rest h r room (subst (λ u. AreWithin u rest) (sym (method_params_behind ps t r.marks)) w)
 
   -- ---- names that are sent, and names that are assigned
 
@@ -203,38 +237,35 @@ module _ (features : List (List ℕ)) (distinct : are_distinct features ≡ true
 
   -- ---- methods
 
-  -- behind methods the parameters and the nodes in hand are those of the last one
-  abbrev with_methods : Tally → List Role → List (List ℕ) → ℕ → Type 0
-  with_methods t rest ws n = (ps : List (List ℕ)) (k : ℕ) → AreWithin (record t { marks = []; methods = ws; params = ps; nodes = k; size = n }) rest
+  -- behind methods the names of parameters and the nodes in hand are those of the last one
+  abbrev with_methods : Tally → List Role → ℕ → ℕ → Type 0
+  with_methods t rest k n = (ws : List (List ℕ)) (l : ℕ) → AreWithin (record t { marks = []; methods = k; param_names = ws; nodes = l; size = n }) rest
 
-  methods_within : (ms : List Method) (t : Tally) (rest : List Role) → list_all (is_method count) ms ≡ true → IsReady features t → are_new t.methods (map (λ m. m.name) ms) ≡ true → length t.methods + length ms ≤ most_methods
-      → t.size + sum_by method_size ms ≤ most_size → with_methods t rest (t.methods ++ map (λ m. m.name) ms) (t.size + sum_by method_size ms) → AreWithin t (in_order roles_method (map (tree_of_method features) ms) rest)
-  methods_within [] t rest h r new few fits w =
-      subst (λ ms. AreWithin (record t { marks = ms }) rest) (sym r.marks) (moved (with_methods t rest) _ _ _ _ (append-nil t.methods) (omega arith) w t.params t.nodes)
-  methods_within (m ∷ ms) t rest h r new few fits w =
+  methods_within : (ms : List Method) (t : Tally) (rest : List Role) → list_all (is_method count) ms ≡ true → IsReady features t → t.methods + length ms ≤ most_methods
+      → t.size + sum_by method_size ms ≤ most_size → with_methods t rest (t.methods + length ms) (t.size + sum_by method_size ms) → AreWithin t (in_order roles_method (map (tree_of_method features) ms) rest)
+  methods_within [] t rest h r few fits w =
+      subst (λ ms. AreWithin (record t { marks = ms }) rest) (sym r.marks) (moved (with_methods t rest) _ _ _ _ (omega arith) (omega arith) w t.param_names t.nodes)
+  methods_within (m ∷ ms) t rest h r few fits w =
       let p = and_parts (is_method count m) (list_all (is_method count) ms) h in
       let k = method_kept count m p.0 in
-      let n = new_first t.methods m.name (map (λ m. m.name) ms) new in
       let sum : sum_by method_size (m ∷ ms) ≡ 1 + (length m.params + node_count m.body) + sum_by method_size ms = sum_by-cons method_size m ms in
-      let longer : length (t.methods ++ m.name ∷ []) ≡ length t.methods + 1 = length-append t.methods (m.name ∷ []) in
       let few_params = k.params.few in
       let few_nodes = k.nodes in
-      let u : Tally = record t { marks = []; methods = t.methods ++ m.name ∷ []; params = []; nodes = 0; size = t.size + 1 } in
-      let v : Tally = record u { params = map (λ p. p.name) m.params; size = t.size + 1 + length m.params } in
+      let u : Tally = record t { marks = []; methods = t.methods + 1; param_names = []; nodes = 0; size = t.size + 1 } in
+      let v : Tally = record u { param_names = map (λ p. p.name) m.params; size = t.size + 1 + length m.params } in
       let x : Tally = with_nodes v (node_count m.body) in
       let others : AreWithin x (in_order roles_method (map (tree_of_method features) ms) rest) =
-      methods_within ms x rest p.1 (record { met = r.met; marks = refl }) n.1 (omega arith) (omega (arith, sum))
-      (moved (with_methods t rest) _ _ _ _ (sym (append_assoc t.methods (m.name ∷ []) (map (λ m. m.name) ms))) (omega (arith, sum)) w) in
+      methods_within ms x rest p.1 (record { met = r.met; marks = refl }) (omega arith) (omega (arith, sum)) (moved (with_methods t rest) _ _ _ _ (omega arith) (omega (arith, sum)) w) in
       let body : AreWithin v (roles_expr 0 (tree_of_expr features m.body) (other_token ∷ (other_token ∷ in_order roles_method (map (tree_of_method features) ms) rest))) =
       expr_within features distinct well m.body v _ k.named k.shallow r.met (omega arith) (omega (arith, sum)) (refl, (refl, others)) in
       marks_within features m.colors t _ distinct well r
       (λ ms'. (
         used_ok (record t { marks = ms' }) m.result k.result,
         (
-          method_ok (record t { marks = [] }) m.name k.name n.0 (omega arith) (omega (arith, sum)),
+          method_ok (record t { marks = [] }) m.name k.name (omega arith) (omega (arith, sum)),
           (
             refl,
-            params_within method_param_name most_params method_role m.params u _ k.params.each (record { met = r.met; marks = refl }) (record { new = k.params.distinct; few = omega arith; fits = omega (arith, sum) })
+            method_params_within m.params u _ k.params.each (record { met = r.met; marks = refl }) (record { new = k.distinct; few = omega arith; fits = omega (arith, sum) })
                 (refl, (refl, (refl, body))),
           ),
         ),
@@ -255,9 +286,9 @@ module _ (features : List (List ℕ)) (distinct : are_distinct features ≡ true
       let few_sends = c.sends.few in
       let few_assigns = c.assigns.few in
       let few_methods = c.few_methods in
-      let a : Tally = record t { marks = []; classes = t.classes ++ k.name ∷ []; fields = []; methods = []; params = []; sends = 0; assigns = 0; nodes = 0; size = t.size + 1 } in
-      let b : Tally = record a { fields = map (λ f. f.name) k.fields; size = t.size + 1 + length k.fields } in
-      let d : Tally = record b { params = map (λ p. p.name) k.ctor.params; size = b.size + length k.ctor.params } in
+      let a : Tally = record t { marks = []; classes = t.classes ++ k.name ∷ []; fields = 0; methods = 0; params = 0; sends = 0; assigns = 0; param_names = []; nodes = 0; size = t.size + 1 } in
+      let b : Tally = record a { fields = 0 + length k.fields; size = t.size + 1 + length k.fields } in
+      let d : Tally = record b { params = 0 + length k.ctor.params; size = b.size + length k.ctor.params } in
       let e : Tally = record d { sends = 0 + length k.ctor.sends; size = d.size + length k.ctor.sends } in
       let g : Tally = record e { assigns = 0 + length k.ctor.assigns; size = e.size + length k.ctor.assigns } in
       marks_within features k.colors t _ distinct well r
@@ -271,11 +302,11 @@ module _ (features : List (List ℕ)) (distinct : are_distinct features ≡ true
               used_ok a k.parent c.parent,
               (
                 refl,
-                fields_within k.fields a _ c.each_field (record { met = r.met; marks = refl }) c.fields_distinct (omega arith) (omega arith) (
+                fields_within k.fields a _ c.each_field (record { met = r.met; marks = refl }) (omega arith) (omega arith) (
                   used_ok b k.name c.name,
                   (
                     refl,
-                    params_within param_name most_in_ctor ctor_role k.ctor.params b _ c.params.each (record { met = r.met; marks = refl }) (record { new = c.params.distinct; few = omega arith; fits = omega arith }) (
+                    ctor_params_within k.ctor.params b _ c.params.each (record { met = r.met; marks = refl }) (record { few = omega arith; fits = omega arith }) (
                       refl,
                       (
                         refl,
@@ -289,8 +320,8 @@ module _ (features : List (List ℕ)) (distinct : are_distinct features ≡ true
                                 refl,
                                 assigns_within k.ctor.assigns e _ c.assigns.each (record { met = r.met; marks = refl }) (omega arith) (omega arith) (
                                   refl,
-                                  methods_within k.methods g _ c.each_method (record { met = r.met; marks = refl }) c.methods_distinct (omega arith) (omega arith)
-                                      (λ ps n. (refl, w _ refl refl refl refl (omega arith))),
+                                  methods_within k.methods g _ c.each_method (record { met = r.met; marks = refl }) (omega arith) (omega arith)
+                                      (λ ws n. (refl, w _ refl refl refl refl (omega arith))),
                                 ),
                               ),
                             ),

@@ -1,8 +1,8 @@
 -- The tree of each declaration, class and product line: where it is numbered, its tree stands for it.
-use Rattle.std.proofs.Common.{◌≡◌, ℕ, ◌+◌, ◌<◌, ◌≤◌, ◌^◌, Bool, true, not, ◌&&◌, ◌==◌, nat_le, List, [], ◌∷◌, length, map, refl, sym, ap, ◌∙◌}
+use Rattle.std.proofs.Common.{◌≡◌, ℕ, ◌+◌, ◌<◌, ◌≤◌, ◌^◌, Bool, true, not, ◌&&◌, nat_le, List, [], ◌∷◌, length, map, refl, sym, ap, ◌∙◌}
 use Rattle.std.specs.List.{list_all}
 use Rattle.std.specs.Str.{bytes_eq}
-use Rattle.std.proofs.lemmas.Bool.{and_parts, and_from, leb-true, ltb-true, eqb-true}
+use Rattle.std.proofs.lemmas.Bool.{and_parts, and_from, leb-true, ltb-true}
 use Rattle.cfj_model.specs.declared.class.Field.{Field}
 use Rattle.cfj_model.specs.declared.class.Param.{Param}
 use Rattle.cfj_model.specs.declared.class.Sent.{Sent}
@@ -15,9 +15,12 @@ use Rattle.cfj_model.specs.FormulaGrammar.{value_iff}
 use Rattle.cfj_logic.specs.Formulas.{is_over, formula_nest}
 use Rattle.cfj_model.specs.Grammar.{Declared, Named, MethodTree, ClassTree, Tree, numbered, value_field, value_param, value_sent, value_ctor, value_method, value_class}
 use Rattle.cfj_model.specs.Grammar as grammar
+use Rattle.cfj_model.specs.Members.{numbered_fields, numbered_methods, are_fields_numbered, are_methods_numbered, field_alts_rise, method_alts_rise}
 use Rattle.cfj_words.specs.Names.{is_short_identifier}
 use Rattle.cfj_model.specs.Numbered.{run_from, is_numbered_ctor, is_numbered_method, is_numbered_class, IsNumbered}
 use Rattle.cfj_model.specs.ProductLines.{ProductLine, IsProject, are_distinct, rise_from, object, is_field, is_param, is_sent, are_params, are_sents, are_fields, is_ctor, is_body, is_method, are_methods, is_class, is_constraint, most_fields, most_in_ctor, most_params, most_methods, most_nodes, most_nest}
+use Rattle.cfj_model.proofs.Members.{numbered_fields_again, numbered_methods_again}
+use Rattle.print_law.proofs.Alternatives.{fields_alike, methods_alike}
 use Rattle.print_law.proofs.ExprTrees.{tree_of_expr, run_first, expr_again}
 use Rattle.print_law.proofs.Features.{marks_of, colors_again}
 use Rattle.print_law.proofs.FormulaTrees.{tree_of_formula, formula_again}
@@ -73,15 +76,14 @@ parts_4 a b c d h = let p = and_parts (a && b && c) d h in let q = parts_3 a b c
 
 -- a field
 pub record FieldKept (n : ℕ) (f : Field) : Type 0 where
-  pub alt : f.alt ≡ 0
   pub colors : f.colors < 2 ^ n
   pub of : is_short_identifier f.of ≡ true
   pub name : is_short_identifier f.name ≡ true
 
 pub field_kept : (n : ℕ) (f : Field) → is_field n f ≡ true → FieldKept n f
 field_kept n f h =
-    let p = parts_4 (f.alt == 0) (are_known n f.colors) (is_short_identifier f.of) (is_short_identifier f.name) h in
-    record { alt = eqb-true f.alt 0 p.0; colors = ltb-true f.colors (2 ^ n) p.1; of = p.2; name = p.3 }
+    let p = parts_3 (are_known n f.colors) (is_short_identifier f.of) (is_short_identifier f.name) h in
+    record { colors = ltb-true f.colors (2 ^ n) p.0; of = p.1; name = p.2 }
 
 -- a parameter
 pub record ParamKept (n : ℕ) (p : Param) : Type 0 where
@@ -105,13 +107,12 @@ sent_kept n x h = let p = and_parts (are_known n x.colors) (is_short_identifier 
 -- parameters
 pub record ParamsKept (most n : ℕ) (ps : List Param) : Type 0 where
   pub few : length ps ≤ most
-  pub distinct : are_distinct (map (λ p. p.name) ps) ≡ true
   pub each : list_all (is_param n) ps ≡ true
 
 pub params_kept : (most n : ℕ) (ps : List Param) → are_params most n ps ≡ true → ParamsKept most n ps
 params_kept most n ps h =
-    let p = parts_4 (nat_le (length ps) most) (are_distinct (map (λ p. p.name) ps)) (rise_from 0 (map (λ p. p.slot) ps)) (list_all (is_param n) ps) h in
-    record { few = leb-true (length ps) most p.0; distinct = p.1; each = p.3 }
+    let p = parts_3 (nat_le (length ps) most) (rise_from 0 (map (λ p. p.slot) ps)) (list_all (is_param n) ps) h in
+    record { few = leb-true (length ps) most p.0; each = p.2 }
 
 -- names that are sent, or assigned
 pub record SentsKept (n : ℕ) (ss : List Sent) : Type 0 where
@@ -123,11 +124,11 @@ sents_kept n ss h = let p = parts_3 (nat_le (length ss) most_in_ctor) (rise_from
 
 -- a method
 pub record MethodKept (n : ℕ) (m : Method) : Type 0 where
-  pub alt : m.alt ≡ 0
   pub colors : m.colors < 2 ^ n
   pub result : is_short_identifier m.result ≡ true
   pub name : is_short_identifier m.name ≡ true
   pub params : ParamsKept most_params n m.params
+  pub distinct : are_distinct (map (λ p. p.name) m.params) ≡ true
   pub named : is_named n m.body ≡ true
   pub nodes : node_count m.body ≤ most_nodes
   pub shallow : nest m.body ≤ most_nest
@@ -135,15 +136,16 @@ pub record MethodKept (n : ℕ) (m : Method) : Type 0 where
 pub method_kept : (n : ℕ) (m : Method) → is_method n m ≡ true → MethodKept n m
 unfolding is_method
 method_kept n m h =
-    let p = parts_3 (m.alt == 0 && are_known n m.colors && is_short_identifier m.result && is_short_identifier m.name) (are_params most_params n m.params) (is_body n m.body) h in
-    let q = parts_4 (m.alt == 0) (are_known n m.colors) (is_short_identifier m.result) (is_short_identifier m.name) p.0 in
-    let b = parts_4 (is_named n m.body) (nat_le (node_count m.body) most_nodes) (nat_le (nest m.body) most_nest) (rise_from 0 (slots m.body)) p.2 in
+    let heading = are_known n m.colors && is_short_identifier m.result && is_short_identifier m.name in
+    let p = parts_4 heading (are_params most_params n m.params) (are_distinct (map (λ p. p.name) m.params)) (is_body n m.body) h in
+    let q = parts_3 (are_known n m.colors) (is_short_identifier m.result) (is_short_identifier m.name) p.0 in
+    let b = parts_4 (is_named n m.body) (nat_le (node_count m.body) most_nodes) (nat_le (nest m.body) most_nest) (rise_from 0 (slots m.body)) p.3 in
     record {
-      alt = eqb-true m.alt 0 q.0;
-      colors = ltb-true m.colors (2 ^ n) q.1;
-      result = q.2;
-      name = q.3;
+      colors = ltb-true m.colors (2 ^ n) q.0;
+      result = q.1;
+      name = q.2;
       params = params_kept most_params n m.params p.1;
+      distinct = p.2;
       named = b.0;
       nodes = leb-true (node_count m.body) most_nodes b.1;
       shallow = leb-true (nest m.body) most_nest b.2;
@@ -156,13 +158,11 @@ pub record ClassKept (n : ℕ) (k : Class) : Type 0 where
   pub colors : k.colors < 2 ^ n
   pub parent : is_short_identifier k.parent ≡ true
   pub few_fields : length k.fields ≤ most_fields
-  pub fields_distinct : are_distinct (map (λ f. f.name) k.fields) ≡ true
   pub each_field : list_all (is_field n) k.fields ≡ true
   pub params : ParamsKept most_in_ctor n k.ctor.params
   pub sends : SentsKept n k.ctor.sends
   pub assigns : SentsKept n k.ctor.assigns
   pub few_methods : length k.methods ≤ most_methods
-  pub methods_distinct : are_distinct (map (λ m. m.name) k.methods) ≡ true
   pub each_method : list_all (is_method n) k.methods ≡ true
 
 pub class_kept : (n : ℕ) (k : Class) → is_class n k ≡ true → ClassKept n k
@@ -170,22 +170,20 @@ unfolding is_class
 class_kept n k h =
     let p = parts_4 (is_short_identifier k.name && not (bytes_eq k.name object) && are_known n k.colors && is_short_identifier k.parent) (are_fields n k.fields) (is_ctor n k.ctor) (are_methods n k.methods) h in
     let q = parts_4 (is_short_identifier k.name) (not (bytes_eq k.name object)) (are_known n k.colors) (is_short_identifier k.parent) p.0 in
-    let f = parts_3 (nat_le (length k.fields) most_fields) (are_distinct (map (λ f. f.name) k.fields)) (list_all (is_field n) k.fields) p.1 in
+    let f = parts_3 (nat_le (length k.fields) most_fields) (field_alts_rise k.fields) (list_all (is_field n) k.fields) p.1 in
     let c = parts_3 (are_params most_in_ctor n k.ctor.params) (are_sents n k.ctor.sends) (are_sents n k.ctor.assigns) p.2 in
-    let m = parts_3 (nat_le (length k.methods) most_methods) (are_distinct (map (λ m. m.name) k.methods)) (list_all (is_method n) k.methods) p.3 in
+    let m = parts_3 (nat_le (length k.methods) most_methods) (method_alts_rise k.methods) (list_all (is_method n) k.methods) p.3 in
     record {
       name = q.0;
       no_object = q.1;
       colors = ltb-true k.colors (2 ^ n) q.2;
       parent = q.3;
       few_fields = leb-true (length k.fields) most_fields f.0;
-      fields_distinct = f.1;
       each_field = f.2;
       params = params_kept most_in_ctor n k.ctor.params c.0;
       sends = sents_kept n k.ctor.sends c.1;
       assigns = sents_kept n k.ctor.assigns c.2;
       few_methods = leb-true (length k.methods) most_methods m.0;
-      methods_distinct = m.1;
       each_method = m.2;
     }
 
@@ -221,11 +219,15 @@ module _ (features : List (List ℕ)) (distinct : are_distinct features ≡ true
   abbrev count : ℕ
   count = length features
 
-  field_again : (f : Field) → is_field count f ≡ true → value_field features (tree_of_field features f) ≡ f
-  field_again f h =
-      let k = field_kept count f h in
-      let at : ℕ → ℕ → Field = λ a c. record { alt = a; colors = c; of = f.of; name = f.name } in
-      ap (λ c. at 0 c) (colors_again features f.colors distinct k.colors) ∙ ap (λ a. at a f.colors) (sym k.alt)
+  -- but for the alt
+  field_again : (f : Field) (n : ℕ) → is_field count f ≡ true → record (value_field features (tree_of_field features f)) { alt = n } ≡ record f { alt = n }
+  field_again f n h =
+      let at : ℕ → Field = λ c. record { alt = n; colors = c; of = f.of; name = f.name } in
+      ap at (colors_again features f.colors distinct (field_kept count f h).colors)
+
+  -- numbered fields, with their alts
+  fields_again : (fs : List Field) → list_all (is_field count) fs ≡ true → are_fields_numbered fs ≡ true → numbered_fields (map (value_field features) (map (tree_of_field features) fs)) ≡ fs
+  fields_again fs h r = fields_alike (value_field features) (tree_of_field features) (is_field count) (λ f. refl) field_again fs h ∙ numbered_fields_again fs r
 
   param_again : (p : Param) → is_param count p ≡ true → value_param features p.slot (tree_of_param features p) ≡ p
   param_again p h =
@@ -243,16 +245,16 @@ module _ (features : List (List ℕ)) (distinct : are_distinct features ≡ true
   sents_again : (ss : List Sent) → run_from 0 (map (λ s. s.slot) ss) ≡ true → SentsKept count ss → numbered (value_sent features) 0 (map (tree_of_sent features) ss) ≡ ss
   sents_again ss r k = numbered_again (value_sent features) (tree_of_sent features) (λ s. s.slot) (is_sent count) sent_again 0 ss r k.each
 
-  method_again : (m : Method) → (is_method count m && is_numbered_method m) ≡ true → value_method features (tree_of_method features m) ≡ m
-  method_again m h =
+  -- but for the alt
+  method_again : (m : Method) (n : ℕ) → (is_method count m && is_numbered_method m) ≡ true → record (value_method features (tree_of_method features m)) { alt = n } ≡ record m { alt = n }
+  method_again m n h =
       let p = and_parts (is_method count m) (is_numbered_method m) h in
       let k = method_kept count m p.0 in
       let r = and_parts (run_from 0 (map (λ p. p.slot) m.params)) (run_from 0 (slots m.body)) p.1 in
       let e = expr_again features distinct m.body in
-      ap (λ c. record (value_method features (tree_of_method features m)) { colors = c }) (colors_again features m.colors distinct k.colors)
-      ∙ ap (λ ps. record m { alt = 0; params = ps; body = (value_expr features 0 (tree_of_expr features m.body)).0 }) (params_again most_params m.params r.0 k.params)
-      ∙ ap (λ b. record m { alt = 0; body = b }) (ap (λ v. v.0) (e.again 0 r.1 k.named))
-      ∙ ap (λ a. record m { alt = a }) (sym k.alt)
+      ap (λ c. record (value_method features (tree_of_method features m)) { alt = n; colors = c }) (colors_again features m.colors distinct k.colors)
+      ∙ ap (λ ps. record m { alt = n; params = ps; body = (value_expr features 0 (tree_of_expr features m.body)).0 }) (params_again most_params m.params r.0 k.params)
+      ∙ ap (λ b. record m { alt = n; body = b }) (ap (λ v. v.0) (e.again 0 r.1 k.named))
 
   methods_both : (ms : List Method) → list_all (is_method count) ms ≡ true → list_all is_numbered_method ms ≡ true → list_all (λ m. is_method count m && is_numbered_method m) ms ≡ true
   methods_both [] h r = refl
@@ -260,6 +262,12 @@ module _ (features : List (List ℕ)) (distinct : are_distinct features ≡ true
       let p = and_parts (is_method count m) (list_all (is_method count) ms) h in
       let q = and_parts (is_numbered_method m) (list_all is_numbered_method ms) r in
       and_from _ _ (and_from _ _ p.0 q.0) (methods_both ms p.1 q.1)
+
+  -- numbered methods, with their alts
+  methods_again : (ms : List Method) → list_all (is_method count) ms ≡ true → list_all is_numbered_method ms ≡ true → are_methods_numbered ms ≡ true → numbered_methods (map (value_method features) (map (tree_of_method features) ms)) ≡ ms
+  methods_again ms h n r =
+      methods_alike (value_method features) (tree_of_method features) (λ m. is_method count m && is_numbered_method m) (λ m. refl) method_again ms (methods_both ms h n)
+      ∙ numbered_methods_again ms r
 
   ctor_again : (k : Class) → ClassKept count k → is_numbered_ctor k.ctor ≡ true → value_ctor features (tree_of_class features k) ≡ k.ctor
   ctor_again k c h =
@@ -272,13 +280,12 @@ module _ (features : List (List ℕ)) (distinct : are_distinct features ≡ true
   pub class_again : (k : Class) → is_class count k ≡ true → is_numbered_class k ≡ true → value_class features (tree_of_class features k) ≡ k
   class_again k h r =
       let c = class_kept count k h in
-      let q = and_parts (is_numbered_ctor k.ctor) (list_all is_numbered_method k.methods) r in
+      let q = parts_4 (are_fields_numbered k.fields) (is_numbered_ctor k.ctor) (are_methods_numbered k.methods) (list_all is_numbered_method k.methods) r in
+      let methods : List Method = numbered_methods (map (value_method features) (map (tree_of_method features) k.methods)) in
       ap (λ n. record (value_class features (tree_of_class features k)) { colors = n }) (colors_again features k.colors distinct c.colors)
-      ∙ ap (λ fs. record k { fields = fs; ctor = value_ctor features (tree_of_class features k); methods = map (value_method features) (map (tree_of_method features) k.methods) })
-      (each_again (value_field features) (tree_of_field features) (is_field count) field_again k.fields c.each_field)
-      ∙ ap (λ x. record k { ctor = x; methods = map (value_method features) (map (tree_of_method features) k.methods) }) (ctor_again k c q.0)
-      ∙ ap (λ ms. record k { methods = ms })
-      (each_again (value_method features) (tree_of_method features) (λ m. is_method count m && is_numbered_method m) method_again k.methods (methods_both k.methods c.each_method q.1))
+      ∙ ap (λ fs. record k { fields = fs; ctor = value_ctor features (tree_of_class features k); methods = methods }) (fields_again k.fields c.each_field q.0)
+      ∙ ap (λ x. record k { ctor = x; methods = methods }) (ctor_again k c q.1)
+      ∙ ap (λ ms. record k { methods = ms }) (methods_again k.methods c.each_method q.3 q.2)
 
   constraint_again : (x : Formula) → is_constraint count x ≡ true → value_iff features (tree_of_formula features x) ≡ x
   constraint_again x h = formula_again features distinct x (constraint_kept count x h).over

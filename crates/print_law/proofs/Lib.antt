@@ -7,6 +7,7 @@ pub mod ExprTrees
 pub mod MarkTexts
 pub mod ExprTexts
 pub mod ExprRoles
+pub mod Alternatives
 pub mod ClassTrees
 pub mod ClassTexts
 pub mod ClassRoles

@@ -46,17 +46,17 @@ feature_ok t w h n lt = rw (not_long w h, n, lt-leb most_features (length t.feat
 pub class_ok : (t : Tally) (w : List ℕ) → is_short_identifier w ≡ true → bytes_eq w object ≡ false → is_among t.classes w ≡ false → length t.classes < most_classes → t.size < most_size → broken_by t (class_name w) ≡ None
 class_ok t w h o n lt fits = rw (o, not_long w h, n, lt-leb most_classes (length t.classes) lt, lt-leb most_size t.size fits) refl
 
-pub field_ok : (t : Tally) (w : List ℕ) → is_short_identifier w ≡ true → is_among t.fields w ≡ false → length t.fields < most_fields → t.size < most_size → broken_by t (field_name w) ≡ None
-field_ok t w h n lt fits = rw (not_long w h, n, lt-leb most_fields (length t.fields) lt, lt-leb most_size t.size fits) refl
+pub field_ok : (t : Tally) (w : List ℕ) → is_short_identifier w ≡ true → t.fields < most_fields → t.size < most_size → broken_by t (field_name w) ≡ None
+field_ok t w h lt fits = rw (not_long w h, lt-leb most_fields t.fields lt, lt-leb most_size t.size fits) refl
 
-pub method_ok : (t : Tally) (w : List ℕ) → is_short_identifier w ≡ true → is_among t.methods w ≡ false → length t.methods < most_methods → t.size < most_size → broken_by t (method_name w) ≡ None
-method_ok t w h n lt fits = rw (not_long w h, n, lt-leb most_methods (length t.methods) lt, lt-leb most_size t.size fits) refl
+pub method_ok : (t : Tally) (w : List ℕ) → is_short_identifier w ≡ true → t.methods < most_methods → t.size < most_size → broken_by t (method_name w) ≡ None
+method_ok t w h lt fits = rw (not_long w h, lt-leb most_methods t.methods lt, lt-leb most_size t.size fits) refl
 
-pub param_ok : (t : Tally) (w : List ℕ) → is_short_identifier w ≡ true → is_among t.params w ≡ false → length t.params < most_in_ctor → t.size < most_size → broken_by t (param_name w) ≡ None
-param_ok t w h n lt fits = rw (not_long w h, n, lt-leb most_in_ctor (length t.params) lt, lt-leb most_size t.size fits) refl
+pub param_ok : (t : Tally) (w : List ℕ) → is_short_identifier w ≡ true → t.params < most_in_ctor → t.size < most_size → broken_by t (param_name w) ≡ None
+param_ok t w h lt fits = rw (not_long w h, lt-leb most_in_ctor t.params lt, lt-leb most_size t.size fits) refl
 
-pub method_param_ok : (t : Tally) (w : List ℕ) → is_short_identifier w ≡ true → is_among t.params w ≡ false → length t.params < most_params → t.size < most_size → broken_by t (method_param_name w) ≡ None
-method_param_ok t w h n lt fits = rw (not_long w h, n, lt-leb most_params (length t.params) lt, lt-leb most_size t.size fits) refl
+pub method_param_ok : (t : Tally) (w : List ℕ) → is_short_identifier w ≡ true → is_among t.param_names w ≡ false → length t.param_names < most_params → t.size < most_size → broken_by t (method_param_name w) ≡ None
+method_param_ok t w h n lt fits = rw (not_long w h, n, lt-leb most_params (length t.param_names) lt, lt-leb most_size t.size fits) refl
 
 pub sent_ok : (t : Tally) (w : List ℕ) → is_short_identifier w ≡ true → t.sends < most_in_ctor → t.size < most_size → broken_by t (sent_name w) ≡ None
 sent_ok t w h lt fits = rw (not_long w h, lt-leb most_in_ctor t.sends lt, lt-leb most_size t.size fits) refl

@@ -9,10 +9,11 @@ use Rattle.cfj_model.specs.declared.expr.Expr.{Expr}
 use Rattle.cfj_model.specs.declared.expr.Expr.TheVariants as e
 use Rattle.cfj_model.specs.ExpressionGrammar.{ExprTree, cast, chain, StartTree, variable, this_word, made, bracket, StepsTree, stop, get, call, ArgsTree, no_args, first_arg, MoreArgsTree, no_more, next_arg, value_expr, value_start, value_steps, value_args, value_more_args}
 use Rattle.cfj_model.specs.Expressions.{of_arg, slots_step, slots}
-use Rattle.cfj_model.specs.Grammar.{Declared, Named, MethodTree, ClassTree, Tree, numbered, value_param, value_sent, value_method, value_class, value}
+use Rattle.cfj_model.specs.Grammar.{Declared, Named, MethodTree, ClassTree, Tree, numbered, value_field, value_param, value_sent, value_ctor, value_method, value_class, value}
 use Rattle.cfj_model.specs.Marks.{colors_of}
-use Rattle.cfj_model.specs.Numbered.{run_from, is_numbered_method, is_numbered_class, IsNumbered}
+use Rattle.cfj_model.specs.Numbered.{run_from, is_numbered_ctor, is_numbered_method, is_numbered_class, IsNumbered}
 use Rattle.cfj_model.proofs.ExprCases.{fold_var, fold_get, fold_call, fold_new, fold_cast}
+use Rattle.cfj_model.proofs.Members.{fields_are_numbered, methods_are_numbered, numbered_methods-all}
 use Rattle.print_law.proofs.ExprTrees.{arg_slots}
 
 -- these slots run from one number up to another
@@ -97,7 +98,14 @@ module _ (features : List (List ℕ)) where
   methods_numbered (m ∷ ms) = let r = expr_runs 0 m.body in and_from _ _ (and_from _ _ (params_run 0 m.params) r.run) (methods_numbered ms)
 
   pub class_numbered : (k : ClassTree) → is_numbered_class (value_class features k) ≡ true
-  class_numbered k = and_from _ _ (and_from _ _ (and_from _ _ (params_run 0 k.params) (sents_run 0 k.sends)) (sents_run 0 k.assigns)) (methods_numbered k.methods)
+  class_numbered k =
+      let ctor : is_numbered_ctor (value_ctor features k) ≡ true = and_from _ _ (and_from _ _ (params_run 0 k.params) (sents_run 0 k.sends)) (sents_run 0 k.assigns) in
+      let methods = map (value_method features) k.methods in
+      and_from _ _
+      (and_from _ _
+      (and_from _ _ (fields_are_numbered (map (value_field features) k.fields)) ctor)
+      (methods_are_numbered methods))
+      (numbered_methods-all is_numbered_method (λ m n. refl) methods ∙ methods_numbered k.methods)
 
   classes_numbered : (ks : List ClassTree) → list_all is_numbered_class (map (value_class features) ks) ≡ true
   classes_numbered [] = refl

@@ -1,5 +1,5 @@
 -- The pairs that break, part by part: lists that grow by what breaks.
-use Rattle.std.proofs.Common.{◌≡◌, ℕ, zero, suc, ◌+◌, ◌<◌, ◌≤◌, Bool, true, false, ◌||◌, cond, List, [], ◌∷◌, ◌++◌, length, map, drop, take, slice_get, slice_index_or, Option, None, Some, is_some, option_map, Bor, refl, sym, ◌∙◌, ap, ap₂, subst, add-one}
+use Rattle.std.proofs.Common.{◌≡◌, ℕ, zero, suc, ◌+◌, ◌<◌, ◌≤◌, Bool, true, false, ◌||◌, cond, List, [], ◌∷◌, ◌++◌, length, map, drop, take, slice_get, slice_index_or, Option, None, Some, is_some, option_map, Bor, refl, sym, ◌∙◌, ap, ap₂, subst}
 use Rattle.std.specs.Prelude.{◌↔◌, if◌then◌else◌, is_ok, Result, Ok, Err, OnOk}
 use Rattle.std.specs.List.{list_any, find, filter, flat_map}
 use Rattle.std.specs.Option.{option_copied}
@@ -20,7 +20,7 @@ use Rattle.cfj_model.specs.declared.site.Site.TheVariants as site
 use Rattle.plain_fj.specs.Breaking.{Adds, at_slots, breaking, broken, told}
 use Rattle.plain_fj.specs.ByName.{seen}
 use Rattle.plain_fj.specs.declared.site_break.Break.{Break}
-use Rattle.plain_fj.proofs.Members.{unlike, has_none, has_rest, has_map, has_filter, filter_has}
+use Rattle.plain_fj.proofs.Members.{has_none, has_rest, has_map, has_filter, filter_has}
 use Rattle.plain_fj.proofs.TypeLists.{drop_at, drop_past, take_more}
 use Rattle.plain_fj.proofs.Law.{well_typed_project}
 

@@ -55,7 +55,14 @@ pub fn judge_fields<'a>(
 {
     let fields = class.fields.slice();
     'each: for place in 0..fields.len() {
-        judge_field(table, class, ancestors, &fields[..place], &fields[place], breaks)?;
+        judge_field(
+            table,
+            class,
+            ancestors,
+            &fields[..place],
+            &fields[place],
+            breaks,
+        )?;
     }
     Ok(())
 }

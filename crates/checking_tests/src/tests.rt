@@ -16,8 +16,8 @@ const SOUND: &str =
     "class P extends Object { P ( ) { super ( ) ; } Object id ( Object x ) { return x ; } } \
 class Q extends P { P f ; Q ( P f ) { super ( ) ; this . f = f ; } P get ( ) { return this . f ; } \
 Q with ( P x , Q y ) { return ( Q ) x ; } } \
-class R extends Q { Q g ; R ( P f , Q g ) { super ( f ) ; this . g = g ; } P get ( ) { return this . with ( this , this . g ) . get ( ) ; } \
-Q make ( P x ) { return new R ( x , new Q ( this . f ) ) . g ; } }";
+class R extends Q { Q g ; P h ; R ( P f , Q g , P h ) { super ( f ) ; this . g = g ; this . h = h ; } P get ( ) { return this . with ( this , this . g ) . get ( ) ; } \
+Q make ( P x ) { return new R ( x , new Q ( this . f ) , x ) . g ; } }";
 
 /// Words that take the place of one of its words: its classes, some of its members and variables, and a class that isn't there.
 const WORDS: [&str; 10] = ["P", "Q", "R", "Object", "M", "x", "f", "g", "get", "with"];

@@ -13,7 +13,7 @@ use Rattle.cfj_model.specs.declared.expr.Arg.{Arg}
 use Rattle.cfj_model.specs.declared.expr.Expr.{Expr}
 use Rattle.cfj_model.specs.declared.expr.Expr.TheVariants as e
 use Rattle.cfj_model.specs.declared.site.Rule.{Rule}
-use Rattle.cfj_model.specs.declared.site.Rule.TheVariants.{K1, K2, K4, K5, K6, K7, K8, E2, E3, E4, E5, E6, E7, E8}
+use Rattle.cfj_model.specs.declared.site.Rule.TheVariants.{K1, K2, K4, K5, K6, K7, K8, K9, E2, E3, E4, E5, E6, E7, E8}
 use Rattle.cfj_model.specs.declared.site.Site.{Site}
 use Rattle.cfj_model.specs.declared.site.Site.TheVariants as site
 use Rattle.feature_views.proofs.Kept.{kept, kept_of_map}
@@ -90,7 +90,7 @@ module _ (s : Chosen) (k : Class) where
       let made : Method = projected_method s k.colors m in
       let within = presence_of k.colors m.colors in
       let at : ℕ → Site = λ slot. site.Node k.name m.name m.alt slot in
-      let own = pairs_at (site.Method k.name m.name m.alt) (K1 ∷ (K7 ∷ (K8 ∷ []))) in
+      let own = pairs_at (site.Method k.name m.name m.alt) (K1 ∷ (K7 ∷ (K8 ∷ (K9 ∷ [])))) in
       let params = flat_map (param_pairs k m) m.params in
       let present = flat_map (param_pairs variant made) made.params in
       among_behind own (present ++ node_pairs at made.body []) (params ++ node_pairs at m.body [])

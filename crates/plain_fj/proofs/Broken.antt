@@ -1,5 +1,5 @@
 -- The pairs that break, part by part: lists that grow by what breaks.
-use Rattle.std.proofs.Common.{◌≡◌, ℕ, zero, suc, ◌+◌, ◌<◌, ◌≤◌, Bool, true, false, ◌||◌, cond, List, [], ◌∷◌, ◌++◌, length, map, drop, take, slice_get, slice_index_or, Option, None, Some, is_some, option_map, Bor, refl, sym, ◌∙◌, ap, ap₂, subst, add-one}
+use Rattle.std.proofs.Common.{◌≡◌, ℕ, zero, suc, ◌+◌, ◌<◌, ◌≤◌, Bool, true, false, ◌||◌, cond, List, [], ◌∷◌, ◌++◌, length, map, drop, take, slice_get, slice_index_or, Option, None, Some, is_some, option_map, Bor, refl, sym, ◌∙◌, ap, ap₂, subst}
 use Rattle.std.specs.Prelude.{◌↔◌, if◌then◌else◌, is_ok, Result, Ok, Err, OnOk}
 use Rattle.std.specs.List.{list_any, find, filter, flat_map}
 use Rattle.std.specs.Option.{option_copied}
@@ -20,7 +20,7 @@ use Rattle.cfj_model.specs.declared.site.Site.TheVariants as site
 use Rattle.plain_fj.specs.Breaking.{Adds, at_slots, breaking, broken, told}
 use Rattle.plain_fj.specs.ByName.{seen}
 use Rattle.plain_fj.specs.declared.site_break.Break.{Break}
-use Rattle.plain_fj.proofs.Members.{unlike, has_none, has_rest, has_map, has_filter, filter_has}
+use Rattle.plain_fj.proofs.Members.{has_none, has_rest, has_map, has_filter, filter_has}
 use Rattle.plain_fj.proofs.TypeLists.{drop_at, drop_past, take_more}
 use Rattle.plain_fj.proofs.Law.{well_typed_project}
 
@@ -58,6 +58,12 @@ pub three_noted : (s : Site) (u v w : Ruling) (a b c d : List Break) → Adds a 
 three_noted s u v w a b c d first second third =
     adds_then a b d (judged_at s (u ∷ [])) (judged_at s (v ∷ (w ∷ []))) first (adds_then b c d (judged_at s (v ∷ [])) (judged_at s (w ∷ [])) second third)
 
+-- four rules at a site
+pub four_noted : (s : Site) (u v w x : Ruling) (a b c d e : List Break) → Adds a b (judged_at s (u ∷ [])) → Adds b c (judged_at s (v ∷ [])) → Adds c d (judged_at s (w ∷ [])) → Adds d e (judged_at s (x ∷ []))
+    → Adds a e (judged_at s (u ∷ (v ∷ (w ∷ (x ∷ [])))))
+four_noted s u v w x a b c d e first second third last =
+    adds_then a b e (judged_at s (u ∷ [])) (judged_at s (v ∷ (w ∷ (x ∷ [])))) first (three_noted s v w x b c d e second third last)
+
 -- a list of breaks
 adds_all : (a b xs : List Break) (js : List RuleAt) → b ≡ a ++ xs → Adds [] xs js → Adds a b js
 adds_all a b xs js appended is = ap (map told) appended ∙ map-append told a xs ∙ ap (λ z. map told a ++ z) is
@@ -68,14 +74,6 @@ adds_behind a b c xs js ks (Ok x) appended first next = adds_then a b c js ks fi
 adds_behind a b c xs js ks (Err e) appended first next = tt
 
 -- ---- one after another
-
-pub drop_get : {A : Type 0} (xs : List A) (i : ℕ) (x : A) → slice_get xs i ≡ Some x → drop i xs ≡ x ∷ drop (i + 1) xs
-drop_get {A = A} xs i x at = go xs i at ∙ ap (λ n. x ∷ drop n xs) (sym (add-one i))
-  where
-    go : (xs : List A) (i : ℕ) → slice_get xs i ≡ Some x → drop i xs ≡ x ∷ drop (suc i) xs
-    go [] i at = absurd (unlike at)
-    go (y ∷ ys) zero at = let same : y ≡ x = cc at in ap (λ z. z ∷ ys) same
-    go (y ∷ ys) (suc i) at = go ys i at
 
 -- the item at a place of items that are read, and those behind it
 pub drop_item : {A : Type 0} (xs ys : List A) (i : ℕ) (x : A) → ys ≡ xs → i < length ys → x ≡ slice_index_or ys i x → drop i xs ≡ x ∷ drop (i + 1) xs

@@ -21,6 +21,7 @@ pub record IsSound (p : Table) : Type 0 where
   pub field_types : (k : Class) → Has p k → (f : Field) → Has k.fields f → is_known p f.of ≡ true
   pub results : (k : Class) → Has p k → (m : Method) → Has k.methods m → is_known p m.result ≡ true
   pub fields_distinct : (k : Class) → Has p k → are_distinct (map (λ (f : Field). f.name) k.fields) ≡ true
+  pub methods_distinct : (k : Class) → Has p k → are_distinct (map (λ (m : Method). m.name) k.methods) ≡ true
   pub apart : (k a : Class) → Has p k → Has p a → IsSubtype p k.name a.name → bytes_eq k.name a.name ≡ false
       → (f g : Field) → Has k.fields f → Has a.fields g → bytes_eq f.name g.name ≡ false
 
@@ -173,13 +174,14 @@ typed_field p sound c f t (d, h, n, e) = (d, field_walked p sound f d n c (chain
 -- ---- methods
 
 -- A method's type by the rules is that of the nearest declaration.
-pub method_is : (p : Table) → IsAcyclic p → (m c : List ℕ) (ts : List (List ℕ)) (r : List ℕ) → HasMethodType p m c ts r
+pub method_is : (p : Table) → IsSound p → (m c : List ℕ) (ts : List (List ℕ)) (r : List ℕ) → HasMethodType p m c ts r
     → (d : Method) × (method_of p c m ≡ Some d) × (param_types d.params ≡ ts) × (d.result ≡ r)
-method_is p acyclic m _ _ _ (mt_class c k d q f) =
-    (d, ap (first_some (method_called m)) (chain_of_class p c k acyclic q) ∙ first_here (method_called m) k (chain p k.parent) d f, refl, refl)
-method_is p acyclic m _ _ _ (mt_super c k ts r q f h) =
-    let s = method_is p acyclic m k.parent ts r h in
-    (s.0, ap (first_some (method_called m)) (chain_of_class p c k acyclic q) ∙ first_later (method_called m) k (chain p k.parent) f ∙ s.1, s.2, s.3)
+method_is p sound m _ _ _ (mt_class c k d q h n) =
+    let f = find_distinct (λ (y : Method). y.name) k.methods (sound.methods_distinct k (declared_has p c k q)) d h m n in
+    (d, ap (first_some (method_called m)) (chain_of_class p c k sound.acyclic q) ∙ first_here (method_called m) k (chain p k.parent) d f, refl, refl)
+method_is p sound m _ _ _ (mt_super c k ts r q f h) =
+    let s = method_is p sound m k.parent ts r h in
+    (s.0, ap (first_some (method_called m)) (chain_of_class p c k sound.acyclic q) ∙ first_later (method_called m) k (chain p k.parent) f ∙ s.1, s.2, s.3)
 
 method_walked : (p : Table) (m : List ℕ) (d : Method) (c : List ℕ) (ks : List Class) → Walk p c ks → first_some (method_called m) ks ≡ Some d
     → HasMethodType p m c (param_types d.params) d.result
@@ -188,7 +190,9 @@ method_walked p m d _ _ (go_on c k ks q w) e = go (method_walked p m d k.parent 
   where
     go : (first_some (method_called m) ks ≡ Some d → HasMethodType p m k.parent (param_types d.params) d.result) → (o : Option Method) → method_called m k ≡ o
         → cond (is_some o) o (first_some (method_called m) ks) ≡ Some d → HasMethodType p m c (param_types d.params) d.result
-    go ih (Some x) f e = mt_class c k d q (f ∙ e)
+    go ih (Some x) f e =
+        let h = find_has (λ (y : Method). bytes_eq y.name m) k.methods d (f ∙ e) in
+        mt_class c k d q h.0 (name_is d.name m h.1)
     go ih None f e = mt_super c k (param_types d.params) d.result q f (ih e)
 
 pub is_method : (p : Table) → IsAcyclic p → (m c : List ℕ) (d : Method) → method_of p c m ≡ Some d → HasMethodType p m c (param_types d.params) d.result

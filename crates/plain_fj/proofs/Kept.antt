@@ -4,42 +4,48 @@ use Rattle.std.specs.List.{list_all, list_any}
 use Rattle.std.proofs.lemmas.Bool.{and_parts, and_from, not-true, not_from_false}
 use Rattle.cfj_words.specs.Lists.{Has}
 use Rattle.cfj_model.specs.LookUps.{Table, is_known, all_fields, ancestors, field_called, first_some, method_called}
+use Rattle.cfj_model.specs.Members.{field_name_of, method_name_of}
+use Rattle.cfj_model.specs.ProductLines.{are_distinct}
 use Rattle.cfj_model.specs.Judging.{are_same, takes_fields, extends_itself, is_no_result, is_overridden_wrongly}
 use Rattle.cfj_model.specs.declared.class.Class.{Class}
 use Rattle.cfj_model.specs.declared.class.Field.{Field}
 use Rattle.cfj_model.specs.declared.class.Method.{Method}
 use Rattle.plain_fj.proofs.Members.{has_all, all_has}
-use Rattle.plain_fj.proofs.Quiet.{body_type, are_known_params, method_keeps, field_keeps, ctor_keeps, class_keeps}
+use Rattle.plain_fj.proofs.Quiet.{body_type, are_known_params, method_keeps, field_keeps, fields_keep, ctor_keeps, methods_keep, class_keeps}
 
 -- what a class has where none of its rules breaks
 pub record IsKept (p : Table) (k : Class) : Type 0 where
   pub parent : is_known p k.parent ≡ true
   pub itself : extends_itself p k ≡ false
   pub fields : (f : Field) → Has k.fields f → (is_known p f.of ≡ true) × (list_any (λ a. is_some (field_called f.name a)) (ancestors p k.name) ≡ false)
+  pub fields_alone : are_distinct (map field_name_of k.fields) ≡ true
   pub takes : takes_fields k.ctor.params (all_fields p k.name) ≡ true
   pub sends : are_same (map (λ s. s.name) k.ctor.sends) (map (λ f. f.name) (all_fields p k.parent)) ≡ true
   pub assigns : are_same (map (λ a. a.name) k.ctor.assigns) (map (λ f. f.name) k.fields) ≡ true
   pub ctor : are_known_params p k.ctor.params ≡ true
   pub methods : (m : Method) → Has k.methods m → method_keeps p k m ≡ true
+  pub methods_alone : are_distinct (map method_name_of k.methods) ≡ true
 
 pub kept : (p : Table) (k : Class) → class_keeps p k ≡ true → IsKept p k
 kept p k h =
     record {
       parent = a.0;
       itself = not-true (extends_itself p k) b.0;
-      fields = λ f i. of f (all_has (field_keeps p k) k.fields c.0 f i);
+      fields = λ f i. of f (all_has (field_keeps p k) k.fields u.0 f i);
+      fields_alone = u.1;
       takes = t.0;
       sends = s.0;
       assigns = r.0;
       ctor = r.1;
-      methods = all_has (method_keeps p k) k.methods d.1;
+      methods = all_has (method_keeps p k) k.methods v.0;
+      methods_alone = v.1;
     }
   where
     fs : Bool
-    fs = list_all (field_keeps p k) k.fields
+    fs = fields_keep p k
 
     ms : Bool
-    ms = list_all (method_keeps p k) k.methods
+    ms = methods_keep p k
 
     takes : Bool
     takes = takes_fields k.ctor.params (all_fields p k.name)
@@ -62,6 +68,12 @@ kept p k h =
     d : (ctor_keeps p k ≡ true) × (ms ≡ true)
     d = and_parts (ctor_keeps p k) ms c.1
 
+    u : (list_all (field_keeps p k) k.fields ≡ true) × (are_distinct (map field_name_of k.fields) ≡ true)
+    u = and_parts (list_all (field_keeps p k) k.fields) (are_distinct (map field_name_of k.fields)) c.0
+
+    v : (list_all (method_keeps p k) k.methods ≡ true) × (are_distinct (map method_name_of k.methods) ≡ true)
+    v = and_parts (list_all (method_keeps p k) k.methods) (are_distinct (map method_name_of k.methods)) d.1
+
     t : (takes ≡ true) × ((sends && (assigns && are_known_params p k.ctor.params)) ≡ true)
     t = and_parts takes (sends && (assigns && are_known_params p k.ctor.params)) d.0
 
@@ -80,16 +92,16 @@ pub keeps : (p : Table) (k : Class) → IsKept p k → class_keeps p k ≡ true
 keeps p k i =
     and_from (is_known p k.parent) (not (extends_itself p k) && (fs && (ctor_keeps p k && ms))) i.parent
     (and_from (not (extends_itself p k)) (fs && (ctor_keeps p k && ms)) (not_from_false (extends_itself p k) i.itself)
-    (and_from fs (ctor_keeps p k && ms) (has_all (field_keeps p k) k.fields of)
+    (and_from fs (ctor_keeps p k && ms) (and_from (list_all (field_keeps p k) k.fields) (are_distinct (map field_name_of k.fields)) (has_all (field_keeps p k) k.fields of) i.fields_alone)
     (and_from (ctor_keeps p k) ms (and_from takes (sends && (assigns && are_known_params p k.ctor.params)) i.takes
     (and_from sends (assigns && are_known_params p k.ctor.params) i.sends (and_from assigns (are_known_params p k.ctor.params) i.assigns i.ctor)))
-    (has_all (method_keeps p k) k.methods i.methods))))
+    (and_from (list_all (method_keeps p k) k.methods) (are_distinct (map method_name_of k.methods)) (has_all (method_keeps p k) k.methods i.methods) i.methods_alone))))
   where
     fs : Bool
-    fs = list_all (field_keeps p k) k.fields
+    fs = fields_keep p k
 
     ms : Bool
-    ms = list_all (method_keeps p k) k.methods
+    ms = methods_keep p k
 
     takes : Bool
     takes = takes_fields k.ctor.params (all_fields p k.name)

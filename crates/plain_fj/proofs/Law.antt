@@ -1,12 +1,13 @@
 -- A class table is well typed exactly where no rule breaks.
-use Rattle.std.proofs.Common.{◌≡◌, ℕ, true, false, not, ◌&&◌, List, ◌++◌, length, map, nat_le, Option, None, Some, is_some, refl, sym, ◌∙◌, ap, subst}
+use Rattle.std.proofs.Common.{◌≡◌, ℕ, Bool, true, false, not, ◌&&◌, List, ◌++◌, length, map, nat_le, Option, None, Some, is_some, refl, sym, ◌∙◌, ap, subst}
 use Rattle.std.specs.Prelude.{◌↔◌}
 use Rattle.std.specs.List.{list_all}
 use Rattle.std.specs.Str.{bytes_eq}
 use Rattle.std.proofs.lemmas.Bool.{and_parts, and_from, not-true, not-false, false_from_ne_true}
 use Rattle.cfj_words.specs.Names.{is_short_identifier}
 use Rattle.cfj_model.specs.Expressions.{are_known}
-use Rattle.cfj_model.specs.ProductLines.{ProductLine, IsProject, object, most_fields, are_distinct, is_field, are_fields as are_kept_fields, is_ctor, are_methods, is_class}
+use Rattle.cfj_model.specs.Members.{field_alts_rise, method_alts_rise}
+use Rattle.cfj_model.specs.ProductLines.{ProductLine, IsProject, object, most_fields, most_methods, are_distinct, is_field, are_fields as are_kept_fields, is_ctor, is_method as is_kept_method, are_methods, is_class}
 use Rattle.cfj_words.specs.Lists.{Has}
 use Rattle.cfj_model.specs.LookUps.{Table, is_called, is_known, is_subtype, declared, chain, all_fields, ancestors, field_called, first_some, method_called, method_of}
 use Rattle.cfj_model.specs.Judging.{first_breaking, are_same, environment_of, extends_itself, is_no_result, is_overridden_wrongly}
@@ -15,7 +16,8 @@ use Rattle.cfj_model.specs.declared.class.Class.{Class}
 use Rattle.cfj_model.specs.declared.class.Field.{Field}
 use Rattle.cfj_model.specs.declared.class.Method.{Method}
 use Rattle.cfj_model.specs.declared.class.Param.{Param}
-use Rattle.plain_fj.proofs.Members.{not_true, name_is, is_name, name_differs, differs_name, find_none, none_find, find_distinct, has_all, all_has, none_has, has_no, has_filter, filter_has}
+use Rattle.plain_fj.specs.Alternatives.{DoAltsRise}
+use Rattle.plain_fj.proofs.Members.{not_true, name_is, is_name, differs_back, find_none, none_find, find_distinct, has_all, all_has, none_has, has_no, has_filter, filter_has}
 use Rattle.plain_fj.proofs.Chains.{IsAcyclic, declared_name, declared_has, chain_has, above_in_chain, holds_subtype, subtype_holds, itself_found, itself_by_rules}
 use Rattle.plain_fj.proofs.Inherited.{IsSound, known_class, fields_are, are_fields, own_fields, method_is, is_method, ancestors_are}
 use Rattle.plain_fj.proofs.Typed.{HasKnownTypes, typed, derived}
@@ -24,30 +26,49 @@ use Rattle.plain_fj.proofs.Uses.{UsesKnown, uses_known, known_uses, same_is, is_
 use Rattle.plain_fj.proofs.Kept.{IsKept, kept, keeps, IsKeptMethod, kept_method, keeps_method}
 use Rattle.plain_fj.proofs.Quiet.{body_type, are_known_params, class_keeps, quiet_keeps, keeps_quiet}
 
--- what a project's type keeps of the names that are declared
+-- what a project's type keeps of the names of its classes
 pub record HasDistinctNames (p : Table) : Type 0 where
   pub classes : are_distinct (map (λ (k : Class). k.name) p) ≡ true
   pub no_object : (k : Class) → Has p k → bytes_eq k.name object ≡ false
-  pub fields : (k : Class) → Has p k → are_distinct (map (λ (f : Field). f.name) k.fields) ≡ true
 
-names_of_class : (n : ℕ) (k : Class) → is_class n k ≡ true → (bytes_eq k.name object ≡ false) × (are_distinct (map (λ (f : Field). f.name) k.fields) ≡ true)
-unfolding is_class
-names_of_class n k h =
-    let methods = and_parts (is_short_identifier k.name && not (bytes_eq k.name object) && are_known n k.colors && is_short_identifier k.parent && are_kept_fields n k.fields && is_ctor n k.ctor) (are_methods n k.methods) h in
-    let ctor = and_parts (is_short_identifier k.name && not (bytes_eq k.name object) && are_known n k.colors && is_short_identifier k.parent && are_kept_fields n k.fields) (is_ctor n k.ctor) methods.0 in
-    let fields = and_parts (is_short_identifier k.name && not (bytes_eq k.name object) && are_known n k.colors && is_short_identifier k.parent) (are_kept_fields n k.fields) ctor.0 in
-    let parent = and_parts (is_short_identifier k.name && not (bytes_eq k.name object) && are_known n k.colors) (is_short_identifier k.parent) fields.0 in
-    let colors = and_parts (is_short_identifier k.name && not (bytes_eq k.name object)) (are_known n k.colors) parent.0 in
-    let name = and_parts (is_short_identifier k.name) (not (bytes_eq k.name object)) colors.0 in
-    let distinct = and_parts (nat_le (length k.fields) most_fields && are_distinct (map (λ (f : Field). f.name) k.fields)) (list_all (is_field n) k.fields) fields.1 in
-    (not-true (bytes_eq k.name object) name.1, (and_parts (nat_le (length k.fields) most_fields) (are_distinct (map (λ (f : Field). f.name) k.fields)) distinct.0).1)
+module _ (n : ℕ) (k : Class) (h : is_class n k ≡ true) where
+  abbrev named : Bool
+  named = is_short_identifier k.name && not (bytes_eq k.name object)
+
+  abbrev above : Bool
+  above = named && are_known n k.colors && is_short_identifier k.parent
+
+  members : ((above && are_kept_fields n k.fields && is_ctor n k.ctor) ≡ true) × (are_methods n k.methods ≡ true)
+  unfolding is_class
+  members = and_parts (above && are_kept_fields n k.fields && is_ctor n k.ctor) (are_methods n k.methods) h
+
+  fields : (above ≡ true) × (are_kept_fields n k.fields ≡ true)
+  fields = and_parts above (are_kept_fields n k.fields) (and_parts (above && are_kept_fields n k.fields) (is_ctor n k.ctor) members.0).0
+
+  no_object_class : bytes_eq k.name object ≡ false
+  no_object_class =
+      let known : (named && are_known n k.colors) ≡ true = (and_parts (named && are_known n k.colors) (is_short_identifier k.parent) fields.0).0 in
+      not-true (bytes_eq k.name object) (and_parts (is_short_identifier k.name) (not (bytes_eq k.name object)) (and_parts named (are_known n k.colors) known).0).1
+
+  rising_alts : DoAltsRise k
+  rising_alts =
+      record {
+        fields = (and_parts (nat_le (length k.fields) most_fields) (field_alts_rise k.fields)
+            (and_parts (nat_le (length k.fields) most_fields && field_alts_rise k.fields) (list_all (is_field n) k.fields) fields.1).0).1;
+        methods = (and_parts (nat_le (length k.methods) most_methods) (method_alts_rise k.methods)
+            (and_parts (nat_le (length k.methods) most_methods && method_alts_rise k.methods) (list_all (is_kept_method n) k.methods) members.1).0).1;
+      }
+
+each_class : (q : ProductLine) → IsProject q → (k : Class) → Has q.classes k → is_class (length q.model.features) k ≡ true
+each_class q project k h = all_has (is_class (length q.model.features)) q.classes project.each_class k h
 
 -- A project's names are distinct so.
 pub names_kept : (q : ProductLine) → IsProject q → HasDistinctNames q.classes
-names_kept q project = record { classes = project.classes_distinct; no_object = λ k h. (each k h).0; fields = λ k h. (each k h).1 }
-  where
-    each : (k : Class) → Has q.classes k → (bytes_eq k.name object ≡ false) × (are_distinct (map (λ (f : Field). f.name) k.fields) ≡ true)
-    each k h = names_of_class (length q.model.features) k (all_has (is_class (length q.model.features)) q.classes project.each_class k h)
+names_kept q project = record { classes = project.classes_distinct; no_object = λ k h. no_object_class (length q.model.features) k (each_class q project k h) }
+
+-- The alts of a project's members rise.
+pub alts_kept : (q : ProductLine) → IsProject q → (k : Class) → Has q.classes k → DoAltsRise k
+alts_kept q project k h = rising_alts (length q.model.features) k (each_class q project k h)
 
 pub found_by_name : (p : Table) → HasDistinctNames p → (k : Class) → Has p k → declared p k.name ≡ Some k
 found_by_name p names k h = find_distinct (λ (k : Class). k.name) p names.classes k h k.name refl
@@ -65,9 +86,6 @@ not_called f a h g i = find_none (λ (d : Field). bytes_eq d.name f) a.fields (n
     nothing None h = refl
     nothing (Some x) h = absurd (not_true h)
 
-differs_back : (x y : List ℕ) → bytes_eq x y ≡ false → bytes_eq y x ≡ false
-differs_back x y h = differs_name y x (λ s. name_differs x y h (sym s))
-
 -- A table of which no rule breaks is sound.
 sound_kept : (p : Table) → HasDistinctNames p → ((k : Class) → Has p k → IsKept p k) → IsSound p
 sound_kept p names each =
@@ -78,7 +96,8 @@ sound_kept p names each =
       parents = λ k h. (each k h).parent;
       field_types = λ k h f i. ((each k h).fields f i).0;
       results = λ k h m i. (kept_method p k m ((each k h).methods m i)).result;
-      fields_distinct = names.fields;
+      fields_distinct = λ k h. (each k h).fields_alone;
+      methods_distinct = λ k h. (each k h).methods_alone;
       apart = apart;
     }
   where
@@ -106,7 +125,8 @@ sound_table p names ok =
       parents = λ k h. (uses k h).parent;
       field_types = λ k h f i. all_has (λ (f : Field). is_known p f.of) k.fields (uses k h).fields f i;
       results = λ k h m i. (uses k h).results m i;
-      fields_distinct = names.fields;
+      fields_distinct = ok.fields_alone;
+      methods_distinct = ok.methods_alone;
       apart = ok.apart;
     }
   where
@@ -136,7 +156,7 @@ module _ (p : Table) (sound : IsSound p) (k : Class) (here : Has p k) where
 
       overrides : (ts : List (List ℕ)) (r : List ℕ) → HasMethodType p m.name k.parent ts r → (ts ≡ param_types m.params) × (r ≡ m.result)
       overrides ts r h =
-          let d = method_is p sound.acyclic m.name k.parent ts r h in
+          let d = method_is p sound m.name k.parent ts r h in
           let same = not-false (are_same (param_types d.0.params) (param_types m.params) && bytes_eq d.0.result m.result)
           (sym (ap (is_overridden_wrongly m) (nearest m ∙ d.1)) ∙ i.overrides) in
           let parts = and_parts (are_same (param_types d.0.params) (param_types m.params)) (bytes_eq d.0.result m.result) same in
@@ -185,6 +205,7 @@ module _ (p : Table) (sound : IsSound p) (k : Class) (here : Has p k) where
         parent = uses.parent;
         itself = false_from_ne_true (extends_itself p k) (λ t. let r = itself_by_rules p k t in sound.acyclic k.name r.0 r.1 r.2);
         fields = λ f h. (all_has (λ (f : Field). is_known p f.of) k.fields uses.fields f h, has_no (λ a. is_some (field_called f.name a)) (ancestors p k.name) (free f h));
+        fields_alone = sound.fields_distinct k here;
         takes = and_from (are_same (map (λ p. p.of) k.ctor.params) (map (λ f. f.of) (all_fields p k.name))) (are_same (map (λ p. p.name) k.ctor.params) (map (λ f. f.name) (all_fields p k.name)))
             (is_same_as (map (λ p. p.of) k.ctor.params) (map (λ f. f.of) (all_fields p k.name)) (types_same k.ctor.params (all_fields p k.name) takes))
             (is_same_as (map (λ p. p.name) k.ctor.params) (map (λ f. f.name) (all_fields p k.name)) (names_same k.ctor.params (all_fields p k.name) takes));
@@ -192,6 +213,7 @@ module _ (p : Table) (sound : IsSound p) (k : Class) (here : Has p k) where
         assigns = is_same_as (map (λ a. a.name) k.ctor.assigns) (map (λ f. f.name) k.fields) ok.assigns;
         ctor = uses.ctor;
         methods = λ m h. keeps_method p k m (ok_method uses m h (ok.methods m h));
+        methods_alone = sound.methods_distinct k here;
       }
     where
       above : ok.above ≡ all_fields p k.parent
@@ -216,7 +238,13 @@ well_typed_keeps p names ok k h =
 keeps_well_typed : (p : Table) → HasDistinctNames p → ((k : Class) → Has p k → IsKept p k) → IsWellTyped p
 keeps_well_typed p names each =
     record {
-      table = record { known = λ k h n i. all_has (is_known p) (class_uses k) (known_uses p k (uses k h)) n i; acyclic = sound.acyclic; apart = sound.apart };
+      table = record {
+        known = λ k h n i. all_has (is_known p) (class_uses k) (known_uses p k (uses k h)) n i;
+        acyclic = sound.acyclic;
+        apart = sound.apart;
+        fields_alone = sound.fields_distinct;
+        methods_alone = sound.methods_distinct;
+      };
       classes = λ k h. class_ok p sound k h (each k h);
     }
   where

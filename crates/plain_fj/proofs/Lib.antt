@@ -1,4 +1,5 @@
 pub mod Members
+pub mod Alternatives
 pub mod Chains
 pub mod Inherited
 pub mod Fitting

@@ -1,5 +1,5 @@
 -- Items of lists, and tests over them.
-use Rattle.std.proofs.Common.{◌≡◌, ℕ, zero, suc, ◌⊎◌, inl, inr, Bool, true, false, not, ◌&&◌, ◌||◌, cond, List, [], ◌∷◌, ◌++◌, map, Option, None, Some, option_map, refl, sym, ◌∙◌, ap}
+use Rattle.std.proofs.Common.{◌≡◌, ℕ, zero, suc, ◌+◌, ◌⊎◌, inl, inr, Bool, true, false, not, ◌&&◌, ◌||◌, cond, List, [], ◌∷◌, ◌++◌, map, drop, slice_get, Option, None, Some, option_map, refl, sym, ◌∙◌, ap, add-one}
 use Rattle.std.specs.List.{list_all, list_any, find, filter, flat_map}
 use Rattle.std.specs.Str.{bytes_eq}
 use Rattle.std.proofs.lemmas.Bool.{and_parts, and_from, or_cases, or_parts, or_left, or_right, not-true}
@@ -32,6 +32,9 @@ differs_name x y ne = go (bytes_eq x y) refl
     go : (b : Bool) → bytes_eq x y ≡ b → b ≡ false
     go true q = absurd (ne (name_is x y q))
     go false q = refl
+
+pub differs_back : (x y : List ℕ) → bytes_eq x y ≡ false → bytes_eq y x ≡ false
+differs_back x y h = differs_name y x (λ s. name_differs x y h (sym s))
 
 -- two names are one or not
 pub names_tell : (x y : List ℕ) → (x ≡ y) ⊎ (x ≡ y → ⊥)
@@ -75,6 +78,15 @@ pub has_map : {A B : Type 0} (f : A → B) (xs : List A) (x : A) → Has xs x �
 has_map f [] x h = absurd (has_none x h)
 has_map f (z ∷ xs) x (zero, e) = (zero, (let s : z ≡ x = cc e in ap (λ w. Some (f w)) s))
 has_map f (z ∷ xs) x (suc k, e) = has_rest (f z) (map f xs) (f x) (has_map f xs x (k, e))
+
+-- an item, and those behind it
+pub drop_get : {A : Type 0} (xs : List A) (i : ℕ) (x : A) → slice_get xs i ≡ Some x → drop i xs ≡ x ∷ drop (i + 1) xs
+drop_get {A = A} xs i x at = go xs i at ∙ ap (λ n. x ∷ drop n xs) (sym (add-one i))
+  where
+    go : (xs : List A) (i : ℕ) → slice_get xs i ≡ Some x → drop i xs ≡ x ∷ drop (suc i) xs
+    go [] i at = absurd (unlike at)
+    go (y ∷ ys) zero at = let same : y ≡ x = cc at in ap (λ z. z ∷ ys) same
+    go (y ∷ ys) (suc i) at = go ys i at
 
 -- ---- tests
 

@@ -4,6 +4,8 @@ use Rattle.std.specs.List.{list_all, list_any, find, flat_map}
 use Rattle.std.proofs.lemmas.Bool.{not-true, not_from_false}
 use Rattle.std.proofs.lemmas.List.Folds.{list_all-append}
 use Rattle.cfj_model.specs.LookUps.{Table, is_known, all_fields, ancestors, field_called, first_some, method_called}
+use Rattle.cfj_model.specs.Members.{Placed, placed, is_again, field_name_of, method_name_of}
+use Rattle.cfj_model.specs.ProductLines.{are_distinct}
 use Rattle.cfj_model.specs.Judging.{RuleAt, Ruling, judged_at, judged_field, judged_ctor, judged_method, judged_class, judged, pair_of, first_breaking, are_same, takes_fields, environment_of, extends_itself, is_no_result, is_overridden_wrongly}
 use Rattle.cfj_model.specs.declared.class.Class.{Class}
 use Rattle.cfj_model.specs.declared.class.Field.{Field}
@@ -12,6 +14,7 @@ use Rattle.cfj_model.specs.declared.class.Param.{Param}
 use Rattle.cfj_model.specs.declared.site.Rule.TheVariants.{K1}
 use Rattle.cfj_model.specs.declared.site.Site.{Site}
 use Rattle.cfj_model.specs.declared.site.Site.TheVariants as site
+use Rattle.plain_fj.proofs.Alternatives.{tested_apart}
 use Rattle.plain_fj.proofs.Members.{unlike, find_none, none_find, has_all, all_has, all_flat_map, all_same}
 use Rattle.plain_fj.proofs.Typed.{judged_of, type_of}
 use Rattle.plain_fj.proofs.Clear.{none_breaks, nodes_clear, clear}
@@ -27,7 +30,7 @@ body_type p k m = type_of p (environment_of k m) m.body
 abbrev pub are_known_params : Table → List Param → Bool
 are_known_params p qs = list_all (λ q. is_known p q.of) qs
 
--- no rule of the method breaks
+-- no rule of the method breaks, but for the one on its name
 abbrev pub method_keeps : Table → Class → Method → Bool
 method_keeps p k m =
     is_known p m.result
@@ -36,6 +39,14 @@ method_keeps p k m =
 
 abbrev pub field_keeps : Table → Class → Field → Bool
 field_keeps p k f = is_known p f.of && not (list_any (λ a. is_some (field_called f.name a)) (ancestors p k.name))
+
+-- no rule of a field breaks
+abbrev pub fields_keep : Table → Class → Bool
+fields_keep p k = list_all (field_keeps p k) k.fields && are_distinct (map field_name_of k.fields)
+
+-- no rule of a method breaks
+abbrev pub methods_keep : Table → Class → Bool
+methods_keep p k = list_all (method_keeps p k) k.methods && are_distinct (map method_name_of k.methods)
 
 abbrev pub ctor_keeps : Table → Class → Bool
 ctor_keeps p k =
@@ -47,7 +58,7 @@ ctor_keeps p k =
 abbrev pub class_keeps : Table → Class → Bool
 class_keeps p k =
     is_known p k.parent
-    && (not (extends_itself p k) && (list_all (field_keeps p k) k.fields && (ctor_keeps p k && list_all (method_keeps p k) k.methods)))
+    && (not (extends_itself p k) && (fields_keep p k && (ctor_keeps p k && methods_keep p k)))
 
 -- ---- tests
 
@@ -55,10 +66,11 @@ one_rule : (b : Bool) → (not (not b) && true) ≡ b
 one_rule true = refl
 one_rule false = refl
 
-two_rules : (a b : Bool) → (not (not a) && (not b && true)) ≡ (a && not b)
-two_rules false b = refl
-two_rules true true = refl
-two_rules true false = refl
+field_rules : (a b n : Bool) → (not (not a) && (not b && (not n && true))) ≡ ((a && not b) && not n)
+field_rules false b n = refl
+field_rules true true n = refl
+field_rules true false true = refl
+field_rules true false false = refl
 
 two_and_more : (a b c : Bool) → (not (not a) && (not b && c)) ≡ (a && (not b && c))
 two_and_more true b c = refl
@@ -70,13 +82,19 @@ ctor_rules true false c d = refl
 ctor_rules true true false d = refl
 ctor_rules true true true d = refl
 
-method_rules : (a b c d x : Bool) → (not (not a) && (not b && (not c && (d && (x && true))))) ≡ (a && (not b && (not c && (d && x))))
-method_rules false b c d x = refl
-method_rules true true c d x = refl
-method_rules true false true d x = refl
-method_rules true false false false x = refl
-method_rules true false false true true = refl
-method_rules true false false true false = refl
+method_rules : (a b c n d x : Bool) → (not (not a) && (not b && (not c && (not n && (d && (x && true)))))) ≡ ((a && (not b && (not c && (d && x)))) && not n)
+method_rules false b c n d x = refl
+method_rules true true c n d x = refl
+method_rules true false true n d x = refl
+method_rules true false false n false x = go n
+  where
+    go : (n : Bool) → (not n && false) ≡ false
+    go true = refl
+    go false = refl
+method_rules true false false true true true = refl
+method_rules true false false true true false = refl
+method_rules true false false false true true = refl
+method_rules true false false false true false = refl
 
 -- ---- sites
 
@@ -94,14 +112,17 @@ nodes_judged at ns =
     all_flat_map (λ (j : RuleAt). not j.breaks) (λ (n : ℕ × List Ruling). judged_at (at n.0) n.1) ns
     ∙ all_same (λ (n : ℕ × List Ruling). none_judged (judged_at (at n.0) n.1)) (λ (n : ℕ × List Ruling). none_breaks n.1) (λ n. judged_clear (at n.0) n.1) ns
 
-method_judged : (p : Table) (k : Class) (m : Method) → none_judged (judged_method p k m) ≡ method_keeps p k m
-method_judged p k m =
-    ap (λ b. not (not (is_known p m.result)) && (not wrong && (not (is_no_result p m (body_type p k m)) && b)))
+method_judged : (p : Table) (k : Class) (q : Placed Method) → none_judged (judged_method p k q) ≡ (method_keeps p k q.item && not (is_again method_name_of q))
+method_judged p k q =
+    ap (λ b. not (not (is_known p m.result)) && (not wrong && (not (is_no_result p m (body_type p k m)) && (not (is_again method_name_of q) && b))))
     (list_all-append (λ (j : RuleAt). not j.breaks) params nodes
     ∙ ap (λ b. b && none_judged nodes) (params_judged (λ q. site.Param k.name m.name m.alt q.slot) p m.params)
     ∙ ap (λ b. are_known_params p m.params && b) (nodes_judged (λ n. site.Node k.name m.name m.alt n) ((judged_of p (environment_of k m) m.body).rules []) ∙ clear p (environment_of k m) m.body []))
-    ∙ method_rules (is_known p m.result) wrong (is_no_result p m (body_type p k m)) (are_known_params p m.params) (is_some (body_type p k m))
+    ∙ method_rules (is_known p m.result) wrong (is_no_result p m (body_type p k m)) (is_again method_name_of q) (are_known_params p m.params) (is_some (body_type p k m))
   where
+    m : Method
+    m = q.item
+
     wrong : Bool
     wrong = is_overridden_wrongly m (first_some (method_called m.name) (ancestors p k.name))
 
@@ -125,33 +146,35 @@ ctor_judged p k =
     assigns : Bool
     assigns = are_same (map (λ a. a.name) k.ctor.assigns) (map (λ f. f.name) k.fields)
 
+fields_judged : (p : Table) (k : Class) → none_judged (flat_map (judged_field p k) (placed k.fields)) ≡ fields_keep p k
+fields_judged p k =
+    all_flat_map (λ (j : RuleAt). not j.breaks) (judged_field p k) (placed k.fields)
+    ∙ all_same (λ (q : Placed Field). none_judged (judged_field p k q)) (λ (q : Placed Field). field_keeps p k q.item && not (is_again field_name_of q))
+    (λ q. field_rules (is_known p q.item.of) (list_any (λ a. is_some (field_called q.item.name a)) (ancestors p k.name)) (is_again field_name_of q)) (placed k.fields)
+    ∙ tested_apart field_name_of (field_keeps p k) k.fields
+
+methods_judged : (p : Table) (k : Class) → none_judged (flat_map (judged_method p k) (placed k.methods)) ≡ methods_keep p k
+methods_judged p k =
+    all_flat_map (λ (j : RuleAt). not j.breaks) (judged_method p k) (placed k.methods)
+    ∙ all_same (λ (q : Placed Method). none_judged (judged_method p k q)) (λ (q : Placed Method). method_keeps p k q.item && not (is_again method_name_of q)) (method_judged p k) (placed k.methods)
+    ∙ tested_apart method_name_of (method_keeps p k) k.methods
+
 class_judged : (p : Table) (k : Class) → none_judged (judged_class p k) ≡ class_keeps p k
 class_judged p k =
     ap (λ b. not (not (is_known p k.parent)) && (not (extends_itself p k) && b))
     (list_all-append (λ (j : RuleAt). not j.breaks) fields (judged_ctor p k ++ methods)
-    ∙ ap (λ b. b && none_judged (judged_ctor p k ++ methods)) fields_judged
-    ∙ ap (λ b. list_all (field_keeps p k) k.fields && b)
+    ∙ ap (λ b. b && none_judged (judged_ctor p k ++ methods)) (fields_judged p k)
+    ∙ ap (λ b. fields_keep p k && b)
     (list_all-append (λ (j : RuleAt). not j.breaks) (judged_ctor p k) methods
     ∙ ap (λ b. b && none_judged methods) (ctor_judged p k)
-    ∙ ap (λ b. ctor_keeps p k && b) methods_judged))
-    ∙ two_and_more (is_known p k.parent) (extends_itself p k) (list_all (field_keeps p k) k.fields && (ctor_keeps p k && list_all (method_keeps p k) k.methods))
+    ∙ ap (λ b. ctor_keeps p k && b) (methods_judged p k)))
+    ∙ two_and_more (is_known p k.parent) (extends_itself p k) (fields_keep p k && (ctor_keeps p k && methods_keep p k))
   where
     fields : List RuleAt
-    fields = flat_map (judged_field p k) k.fields
+    fields = flat_map (judged_field p k) (placed k.fields)
 
     methods : List RuleAt
-    methods = flat_map (judged_method p k) k.methods
-
-    fields_judged : none_judged fields ≡ list_all (field_keeps p k) k.fields
-    fields_judged =
-        all_flat_map (λ (j : RuleAt). not j.breaks) (judged_field p k) k.fields
-        ∙ all_same (λ (f : Field). none_judged (judged_field p k f)) (field_keeps p k)
-        (λ f. two_rules (is_known p f.of) (list_any (λ a. is_some (field_called f.name a)) (ancestors p k.name))) k.fields
-
-    methods_judged : none_judged methods ≡ list_all (method_keeps p k) k.methods
-    methods_judged =
-        all_flat_map (λ (j : RuleAt). not j.breaks) (judged_method p k) k.methods
-        ∙ all_same (λ (m : Method). none_judged (judged_method p k m)) (method_keeps p k) (method_judged p k) k.methods
+    methods = flat_map (judged_method p k) (placed k.methods)
 
 table_judged : (p : Table) → none_judged (judged p) ≡ list_all (class_keeps p) p
 unfolding judged

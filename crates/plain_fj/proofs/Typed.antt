@@ -108,7 +108,7 @@ module _ (p : Table) (g : Environment) where
           )
       typed _ _ (t_invk slot on m c args ts r h method below) =
           let o = typed on c h in
-          let d = method_is p sound.acyclic m c ts r method in
+          let d = method_is p sound m c ts r method in
           let us = typed_args args ts below in (
             type_call slot on m args
                 ∙ ap (λ o. call_type p (judged_args args) o (arg_types args) m) o.0

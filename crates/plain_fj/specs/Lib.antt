@@ -1,3 +1,4 @@
+pub mod Alternatives
 pub mod ByName
 pub mod Found
 pub mod Breaking

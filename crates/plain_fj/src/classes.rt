@@ -3,6 +3,7 @@
 ghost use Rattle.std.specs.Prelude.{◌≡◌, IfOk, OnOk};
 ghost use Rattle.cfj_model.specs.Judging.{judged_class};
 ghost use Rattle.cfj_model.specs.LookUps as spec;
+ghost use Rattle.plain_fj.specs.Alternatives.{DoAltsRise};
 ghost use Rattle.plain_fj.specs.Breaking.{Adds};
 ghost use Rattle.plain_fj.specs.ByName.{seen};
 
@@ -39,6 +40,7 @@ pub fn judge_class<'a>(
     class: &'a Class,
     breaks: &mut Vec<Break<'a>>,
 ) -> Result<(), AllocError>
+    requires { DoAltsRise class.now }
     ensures { OnOk result (Adds breaks.old.items breaks.new.items (judged_class table.now class.now)) }
 {
     let site = SiteRef::Class(&class.name);

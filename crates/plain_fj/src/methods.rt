@@ -1,11 +1,13 @@
 //! The rules of methods.
 
-ghost use Rattle.std.specs.Prelude.{◌≡◌, ◌&&◌, IfOk, OnOk, flat_map};
+ghost use Rattle.std.specs.Prelude.{◌≡◌, true, ◌&&◌, IfOk, OnOk, flat_map};
 ghost use Rattle.std.specs.Option.{option_copied};
 ghost use Rattle.std.specs.Str.{bytes_eq};
 ghost use Rattle.cfj_model.specs.Judging as spec;
 ghost use Rattle.cfj_model.specs.LookUps as look_up;
+ghost use Rattle.cfj_model.specs.Members.{is_again, method_alts_rise, method_name_of, placed};
 ghost use Rattle.cfj_model.specs.Typing as typing;
+ghost use Rattle.plain_fj.specs.Alternatives.{IsToldByAlt, behind};
 ghost use Rattle.plain_fj.specs.Breaking.{Adds, judged_param};
 ghost use Rattle.plain_fj.specs.ByName.{seen};
 
@@ -56,6 +58,15 @@ fn misses_result(table: &ClassTable<'_>, method: &Method, of: Option<&Name>) -> 
     }
 }
 
+/// Whether one of the methods before it has a method's name. The first of its name has alt 0, so that most aren't compared.
+fn is_method_again(before: &[Method], method: &Method) -> bool
+    requires { IsToldByAlt method_name_of method.now.alt (behind before.now method.now) }
+    ensures { result ≡ is_again method_name_of (behind before.now method.now) }
+{
+    let name = method.name.text();
+    method.alt != 0 && before.iter().any(|earlier| earlier.name.text() == name)
+}
+
 /// Adds the breaks at the parameters of a method.
 fn judge_params<'a>(
     table: &ClassTable<'a>,
@@ -72,17 +83,20 @@ fn judge_params<'a>(
     Ok(())
 }
 
-/// Adds the breaks at a method. Those of its body come last, but the body's type says whether the method's own rules break.
+/// Adds the breaks at a method, which stands behind those before it in its class. Those of its body come last, but the body's type
+/// says whether the method's own rules break.
 fn judge_method<'a>(
     alloc: Global,
     table: &ClassTable<'a>,
     class: &'a Class,
     ancestors: &[&'a Class],
+    before: &[Method],
     method: &'a Method,
     breaks: &mut Vec<Break<'a>>,
 ) -> Result<(), AllocError>
-    requires { seen ancestors.now ≡ look_up.ancestors table.now class.now.name }
-    ensures { OnOk result (Adds breaks.old.items breaks.new.items (spec.judged_method table.now class.now method.now)) }
+    requires above { seen ancestors.now ≡ look_up.ancestors table.now class.now.name }
+    requires alt { IsToldByAlt method_name_of method.now.alt (behind before.now method.now) }
+    ensures { OnOk result (Adds breaks.old.items breaks.new.items (spec.judged_method table.now class.now (behind before.now method.now))) }
 {
     let body = Body {
         alloc,
@@ -99,6 +113,7 @@ fn judge_method<'a>(
     let wrongly = overrides_wrongly(alloc, ancestors, method)?;
     note(breaks, site, Rule::K7, wrongly)?;
     note(breaks, site, Rule::K8, misses_result(table, method, of))?;
+    note(breaks, site, Rule::K9, is_method_again(before, method))?;
     judge_params(table, class, method, breaks)?;
     breaks.extend_from_slice(within.as_slice())
 }
@@ -111,11 +126,21 @@ pub fn judge_methods<'a>(
     ancestors: &[&'a Class],
     breaks: &mut Vec<Break<'a>>,
 ) -> Result<(), AllocError>
-    requires { seen ancestors.now ≡ look_up.ancestors table.now class.now.name }
-    ensures { OnOk result (Adds breaks.old.items breaks.new.items (flat_map (spec.judged_method table.now class.now) class.now.methods)) }
+    requires above { seen ancestors.now ≡ look_up.ancestors table.now class.now.name }
+    requires alts { method_alts_rise class.now.methods ≡ true }
+    ensures { OnOk result (Adds breaks.old.items breaks.new.items (flat_map (spec.judged_method table.now class.now) (placed class.now.methods))) }
 {
-    'each: for method in class.methods.slice() {
-        judge_method(alloc, table, class, ancestors, method, breaks)?;
+    let methods = class.methods.slice();
+    'each: for place in 0..methods.len() {
+        judge_method(
+            alloc,
+            table,
+            class,
+            ancestors,
+            &methods[..place],
+            &methods[place],
+            breaks,
+        )?;
     }
     Ok(())
 }

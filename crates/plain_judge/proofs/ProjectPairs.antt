@@ -7,6 +7,7 @@ use Rattle.std.proofs.lemmas.List.Folds.{flat_map-map}
 use Rattle.cfj_model.proofs.ExprCases.{Proved, args_of, by_cases, fold_var, fold_get, fold_call, fold_new, fold_cast, of_arg}
 use Rattle.cfj_model.specs.Judging.{RuleAt, JudgedExpr, Pair, Ruling, argument_rules, environment_of, judged, judged_arg, judged_at, judged_class, judged_ctor, judged_expr, judged_field, judged_method, judged_step, pair_of, pairs_of, Fit, accessed, called, field_types, fit_of, types_of, insert_ranked, is_unrelated, rank, with_ruling}
 use Rattle.cfj_model.specs.LookUps.{Table, is_known}
+use Rattle.cfj_model.specs.Members.{Placed, placed, placed_behind}
 use Rattle.cfj_model.specs.Typing.{Environment, param_types}
 use Rattle.cfj_model.specs.declared.class.Class.{Class}
 use Rattle.cfj_model.specs.declared.class.Method.{Method}
@@ -15,7 +16,7 @@ use Rattle.cfj_model.specs.declared.expr.Arg.{Arg}
 use Rattle.cfj_model.specs.declared.expr.Expr.{Expr}
 use Rattle.cfj_model.specs.declared.expr.Expr.TheVariants as e
 use Rattle.cfj_model.specs.declared.site.Rule.{Rule}
-use Rattle.cfj_model.specs.declared.site.Rule.TheVariants.{K1, K2, K4, K5, K6, K7, K8, E1, E2, E3, E4, E5, E6, E7, E8}
+use Rattle.cfj_model.specs.declared.site.Rule.TheVariants.{K1, K2, K4, K5, K6, K7, K8, K9, E1, E2, E3, E4, E5, E6, E7, E8}
 use Rattle.cfj_model.specs.declared.site.Site.{Site}
 use Rattle.cfj_model.specs.declared.site.Site.TheVariants as site
 use Rattle.plain_judge.specs.Pairs.{arg_pairs, class_pairs, ctor_pairs, ctor_param_pairs, field_pairs, method_pairs, node_pairs, node_pairs_step, pairs_at, param_pairs, project_pairs}
@@ -155,6 +156,15 @@ module _ (at : ℕ → Site) (p : Table) (g : Environment) where
 
 -- ---- declarations
 
+-- of items that are judged with those before them, where the pairs are those of the items alone
+placed_pairs : {A : Type 0} (of : Placed A → List RuleAt) (pairs : A → List Pair) → ((q : Placed A) → map pair_of (of q) ≡ pairs q.item)
+    → (before xs : List A) → map pair_of (flat_map of (placed_behind before xs)) ≡ flat_map pairs xs
+placed_pairs of pairs each before [] = refl
+placed_pairs of pairs each before (x ∷ xs) =
+    let here = record { before = before; item = x } in
+    pairs_append (of here) (flat_map of (placed_behind (before ++ x ∷ []) xs)) (pairs x) (flat_map pairs xs) (each here)
+    (placed_pairs of pairs each (before ++ x ∷ []) xs)
+
 module _ (p : Table) (k : Class) where
   ctor_listed : map pair_of (judged_ctor p k) ≡ ctor_pairs k
   ctor_listed =
@@ -162,13 +172,14 @@ module _ (p : Table) (k : Class) where
       ap (λ z. (s, K4) ∷ ((s, K5) ∷ ((s, K6) ∷ z)))
       (item_pairs (λ (q : Param). judged_at (site.CtorParam k.name q.slot) ((K1, not (is_known p q.of)) ∷ [])) (ctor_param_pairs k) (λ q. refl) k.ctor.params)
 
-  method_listed : (m : Method) → map pair_of (judged_method p k m) ≡ method_pairs k m
-  method_listed m =
+  method_listed : (q : Placed Method) → map pair_of (judged_method p k q) ≡ method_pairs k q.item
+  method_listed q =
+      let m : Method = q.item in
       let s = site.Method k.name m.name m.alt in
       let at = λ (slot : ℕ). site.Node k.name m.name m.alt slot in
       let param = λ (q : Param). judged_at (site.Param k.name m.name m.alt q.slot) ((K1, not (is_known p q.of)) ∷ []) in
       let nodes = (judged_expr p (environment_of k m) m.body).rules [] in
-      ap (λ z. (s, K1) ∷ ((s, K7) ∷ ((s, K8) ∷ z)))
+      ap (λ z. (s, K1) ∷ ((s, K7) ∷ ((s, K8) ∷ ((s, K9) ∷ z))))
       (pairs_append (flat_map param m.params) (flat_map (λ n. judged_at (at n.0) n.1) nodes) (flat_map (param_pairs k m) m.params) (node_pairs at m.body [])
       (item_pairs param (param_pairs k m) (λ q. refl) m.params)
       (nodes_listed at p (environment_of k m) m.body []))
@@ -176,12 +187,12 @@ module _ (p : Table) (k : Class) where
   class_listed : map pair_of (judged_class p k) ≡ class_pairs k
   class_listed =
       let s = site.Class k.name in
-      let methods = flat_map (judged_method p k) k.methods in
+      let methods = flat_map (judged_method p k) (placed k.methods) in
       ap (λ z. (s, K1) ∷ ((s, K2) ∷ z))
-      (pairs_append (flat_map (judged_field p k) k.fields) (judged_ctor p k ++ methods) (flat_map (field_pairs k) k.fields) (ctor_pairs k ++ flat_map (method_pairs k) k.methods)
-      (item_pairs (judged_field p k) (field_pairs k) (λ f. refl) k.fields)
+      (pairs_append (flat_map (judged_field p k) (placed k.fields)) (judged_ctor p k ++ methods) (flat_map (field_pairs k) k.fields) (ctor_pairs k ++ flat_map (method_pairs k) k.methods)
+      (placed_pairs (judged_field p k) (field_pairs k) (λ f. refl) [] k.fields)
       (pairs_append (judged_ctor p k) methods (ctor_pairs k) (flat_map (method_pairs k) k.methods) ctor_listed
-      (item_pairs (judged_method p k) (method_pairs k) method_listed k.methods)))
+      (placed_pairs (judged_method p k) (method_pairs k) method_listed [] k.methods)))
 
 -- all pairs of a project
 pub project_listed : (p : Table) → pairs_of p ≡ project_pairs p

@@ -12,7 +12,7 @@ use Rattle.cfj_model.specs.declared.expr.Expr.{Expr}
 use Rattle.cfj_model.specs.declared.expr.Expr.TheOpen.{Expr-F}
 use Rattle.cfj_model.specs.declared.expr.Expr.TheFolds.{fold-Expr}
 use Rattle.cfj_model.specs.declared.site.Rule.{Rule}
-use Rattle.cfj_model.specs.declared.site.Rule.TheVariants.{K1, K2, K3, K4, K5, K6, K7, K8, E1, E2, E3, E4, E5, E6, E7, E8}
+use Rattle.cfj_model.specs.declared.site.Rule.TheVariants.{K1, K2, K3, K4, K5, K6, K7, K8, K9, E1, E2, E3, E4, E5, E6, E7, E8}
 use Rattle.cfj_model.specs.declared.site.Site.{Site}
 use Rattle.cfj_model.specs.declared.site.Site.TheVariants as site
 
@@ -37,7 +37,7 @@ abbrev pub arg_pairs : (ℕ → Site) → Rule → List Arg → List Pair
 arg_pairs at rule args = flat_map (λ (a : Arg). node_pairs at a.expr (rule ∷ [])) args
 
 abbrev pub field_pairs : Class → Field → List Pair
-field_pairs k f = pairs_at (site.Field k.name f.name f.alt) (K1 ∷ (K3 ∷ []))
+field_pairs k f = pairs_at (site.Field k.name f.name f.alt) (K1 ∷ (K3 ∷ (K9 ∷ [])))
 
 abbrev pub ctor_param_pairs : Class → Param → List Pair
 ctor_param_pairs k q = pairs_at (site.CtorParam k.name q.slot) (K1 ∷ [])
@@ -50,7 +50,7 @@ param_pairs k m q = pairs_at (site.Param k.name m.name m.alt q.slot) (K1 ∷ [])
 
 abbrev pub method_pairs : Class → Method → List Pair
 method_pairs k m =
-    pairs_at (site.Method k.name m.name m.alt) (K1 ∷ (K7 ∷ (K8 ∷ [])))
+    pairs_at (site.Method k.name m.name m.alt) (K1 ∷ (K7 ∷ (K8 ∷ (K9 ∷ []))))
     ++ (flat_map (param_pairs k m) m.params ++ node_pairs (λ slot. site.Node k.name m.name m.alt slot) m.body [])
 
 abbrev pub class_pairs : Class → List Pair

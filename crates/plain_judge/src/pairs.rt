@@ -16,7 +16,7 @@ fn add_fields(alloc: Global, pairs: &mut Vec<(Site, Rule)>, class: &Class) -> Re
 {
     'each: for field in class.fields.slice() {
         let site = SiteRef::Field(&class.name, &field.name, field.alt);
-        add(alloc, pairs, site, &[Rule::K1, Rule::K3])?;
+        add(alloc, pairs, site, &[Rule::K1, Rule::K3, Rule::K9])?;
     }
     Ok(())
 }
@@ -75,7 +75,12 @@ fn add_method(
     ensures { OnOk result (pairs.new.items ≡ pairs.old.items ++ spec.method_pairs class.now method.now) }
 {
     let site = SiteRef::Method(&class.name, &method.name, method.alt);
-    add(alloc, pairs, site, &[Rule::K1, Rule::K7, Rule::K8])?;
+    add(
+        alloc,
+        pairs,
+        site,
+        &[Rule::K1, Rule::K7, Rule::K8, Rule::K9],
+    )?;
     add_params(alloc, pairs, class, method)?;
     let body = Body {
         alloc,

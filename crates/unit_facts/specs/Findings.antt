@@ -5,7 +5,7 @@ use Rattle.std.specs.Fmt.{decimal}
 use Rattle.cfj_model.specs.Sites.{site_text}
 use Rattle.cfj_logic.specs.Selections.{Chosen, is_on}
 use Rattle.cfj_model.specs.declared.site.Rule.{Rule}
-use Rattle.cfj_model.specs.declared.site.Rule.TheVariants.{K1, K2, K3, K4, K5, K6, K7, K8, E1, E2, E3, E4, E5, E6, E7, E8}
+use Rattle.cfj_model.specs.declared.site.Rule.TheVariants.{K1, K2, K3, K4, K5, K6, K7, K8, K9, E1, E2, E3, E4, E5, E6, E7, E8}
 use Rattle.unit_facts.specs.Diagnostics.{is_broken}
 use Rattle.unit_facts.specs.declared.entry.Entry.{Entry}
 use Rattle.unit_facts.specs.declared.entry.Entry.TheVariants as entry
@@ -21,6 +21,7 @@ rule_text K5 = codes "K5"
 rule_text K6 = codes "K6"
 rule_text K7 = codes "K7"
 rule_text K8 = codes "K8"
+rule_text K9 = codes "K9"
 rule_text E1 = codes "E1"
 rule_text E2 = codes "E2"
 rule_text E3 = codes "E3"

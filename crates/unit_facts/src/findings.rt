@@ -20,6 +20,7 @@ fn rule_text(rule: Rule) -> &'static str
         Rule::K6 => "K6",
         Rule::K7 => "K7",
         Rule::K8 => "K8",
+        Rule::K9 => "K9",
         Rule::E1 => "E1",
         Rule::E2 => "E2",
         Rule::E3 => "E3",

@@ -26,6 +26,14 @@ fn first(alloc: Global, site: &str, rules: &[(&str, bool)]) -> Result<Option<Str
     Ok(None)
 }
 
+/// The path of a member, without what tells methods from fields.
+fn member_path(alloc: Global, owner: &str, name: &str, alt: u16) -> Result<String, AllocError> {
+    if alt == 0 {
+        return format!(in alloc; "{owner}.{name}");
+    }
+    format!(in alloc; "{owner}.{name}~{alt}")
+}
+
 fn class_break(
     alloc: Global,
     project: &Project,
@@ -38,17 +46,17 @@ fn class_break(
         ("K2", above.iter().any(|met| met.parent.text() == name)),
     ];
     let mut found = first(alloc, name, &own)?;
-    for field in class.fields.slice() {
+    for (place, field) in class.fields.slice().iter().enumerate() {
         if found.is_none() {
-            found = field_break(alloc, project, class, field, above.as_slice())?;
+            found = field_break(alloc, project, class, place, field, above.as_slice())?;
         }
     }
     if found.is_none() {
         found = ctor_break(alloc, project, class)?;
     }
-    for method in class.methods.slice() {
+    for (place, method) in class.methods.slice().iter().enumerate() {
         if found.is_none() {
-            found = method_break(alloc, project, class, method, above.as_slice())?;
+            found = method_break(alloc, project, class, place, method, above.as_slice())?;
         }
     }
     Ok(found)
@@ -58,6 +66,7 @@ fn field_break(
     alloc: Global,
     project: &Project,
     class: &Class,
+    place: usize,
     field: &Field,
     above: &[&Class],
 ) -> Result<Option<String>, AllocError> {
@@ -71,8 +80,14 @@ fn field_break(
             .any(|other| other.name.text() == name);
         hides = hides || (has && met.name.text() != owner);
     }
-    let site = format!(in alloc; "{owner}.{name}")?;
-    let rules = [("K1", !is_known(project, field.of.text())), ("K3", hides)];
+    let mut before = class.fields.slice().iter().take(place);
+    let again = before.any(|earlier| earlier.name.text() == name);
+    let site = member_path(alloc, owner, name, field.alt)?;
+    let rules = [
+        ("K1", !is_known(project, field.of.text())),
+        ("K3", hides),
+        ("K9", again),
+    ];
     first(alloc, site.as_str(), &rules)
 }
 
@@ -145,6 +160,7 @@ fn method_break(
     alloc: Global,
     project: &Project,
     class: &Class,
+    place: usize,
     method: &Method,
     above: &[&Class],
 ) -> Result<Option<String>, AllocError> {
@@ -164,17 +180,21 @@ fn method_break(
         Some(found) => !is_subtype(alloc, project, found, method.result.text())?,
         None => false,
     };
+    let mut before = class.methods.slice().iter().take(place);
+    let again = before.any(|earlier| earlier.name.text() == name);
     let rules = [
         ("K1", !is_known(project, method.result.text())),
         ("K7", overridden),
         ("K8", no_result),
+        ("K9", again),
     ];
-    let site = format!(in alloc; "{owner}.{name}()")?;
+    let path = member_path(alloc, owner, name, method.alt)?;
+    let site = format!(in alloc; "{path}()")?;
     let mut found = first(alloc, site.as_str(), &rules)?;
     for param in method.params.slice() {
         if found.is_none() {
             let slot = param.slot;
-            let site = format!(in alloc; "{owner}.{name}({slot})")?;
+            let site = format!(in alloc; "{path}({slot})")?;
             found = first(
                 alloc,
                 site.as_str(),
@@ -184,7 +204,7 @@ fn method_break(
     }
     for slot in 0..body.nodes.len() {
         if found.is_none() {
-            let site = format!(in alloc; "{owner}.{name}()#{slot}")?;
+            let site = format!(in alloc; "{path}()#{slot}")?;
             let rules = body.rules_at(alloc, project, slot)?;
             found = first(alloc, site.as_str(), rules.as_slice())?;
         }

@@ -3,12 +3,19 @@ use Rattle.std.specs.List.{flat_map, list_any}
 use Rattle.std.specs.Str.{bytes_eq}
 use Rattle.cfj_model.specs.Judging.{extends_itself, judged_at, judged_ctor, judged_field, judged_method}
 use Rattle.cfj_model.specs.LookUps.{is_known}
+use Rattle.cfj_model.specs.Members.{placed}
 use Rattle.cfj_model.specs.declared.class.Class.{Class}
 use Rattle.cfj_model.specs.declared.site.Rule.TheVariants.{K1, K2}
 use Rattle.cfj_model.specs.declared.site.Site.TheVariants as site
 use Rattle.plain_fj.proofs.Broken.{adds_then, noted, then_added}
 use Rattle.plain_fj.proofs.Nearest.{any_seen}
 use Rattle.plain_fj.proofs.classes.judge_class.Goals as goal
+
+pub judge_fields-requires-clause-alts : goal.judge_fields-requires-clause-alts
+judge_fields-requires-clause-alts c = c.requires.fields
+
+pub judge_methods-requires-clause-alts : goal.judge_methods-requires-clause-alts
+judge_methods-requires-clause-alts c = c.requires.methods
 
 pub returns : goal.returns
 returns c =
@@ -17,8 +24,8 @@ returns c =
     let s = site.Class k.name in
     let known = is_known p k.parent in
     let extends = extends_itself p k in
-    let fields = flat_map (judged_field p k) k.fields in
-    let methods = flat_map (judged_method p k) k.methods in
+    let fields = flat_map (judged_field p k) (placed k.fields) in
+    let methods = flat_map (judged_method p k) (placed k.methods) in
     let before = c.args.breaks.now.items in
     let one = c.note.new.breaks.items in
     let two = c.note-2.new.breaks.items in

@@ -3,10 +3,12 @@ use Rattle.std.specs.List.{flat_map}
 use Rattle.std.specs.Option.{option_copied}
 use Rattle.cfj_model.specs.Judging.{environment_of, is_no_result, is_overridden_wrongly, judged_at, judged_expr}
 use Rattle.cfj_model.specs.LookUps.{ancestors, first_some, is_known, method_called}
-use Rattle.cfj_model.specs.declared.site.Rule.TheVariants.{K1, K7, K8}
+use Rattle.cfj_model.specs.Members.{is_again, method_name_of}
+use Rattle.cfj_model.specs.declared.site.Rule.TheVariants.{K1, K7, K8, K9}
 use Rattle.cfj_model.specs.declared.site.Site.TheVariants as site
+use Rattle.plain_fj.specs.Alternatives.{behind}
 use Rattle.plain_fj.specs.Breaking.{Adds, at_slots, judged_param}
-use Rattle.plain_fj.proofs.Broken.{adds_behind, adds_then, body_adds, body_type, noted, three_noted}
+use Rattle.plain_fj.proofs.Broken.{adds_behind, adds_then, body_adds, body_type, four_noted, noted}
 use Rattle.plain_fj.proofs.methods.judge_method.Goals as goal
 
 pub returns : goal.returns
@@ -19,22 +21,25 @@ returns c =
     let known = is_known p m.result in
     let wrongly = is_overridden_wrongly m (first_some (method_called m.name) (ancestors p k.name)) in
     let misses = is_no_result p m body.type in
-    let own = judged_at s ((K1, not known) ∷ ((K7, wrongly) ∷ ((K8, misses) ∷ []))) in
+    let again = is_again method_name_of (behind c.args.before.now m) in
+    let own = judged_at s ((K1, not known) ∷ ((K7, wrongly) ∷ ((K8, misses) ∷ ((K9, again) ∷ [])))) in
     let params = flat_map (judged_param p k m) m.params in
     let before = c.args.breaks.now.items in
     let one = c.note.new.breaks.items in
     let two = c.note-2.new.breaks.items in
     let three = c.note-3.new.breaks.items in
-    let four = c.judge_params.new.breaks.items in
+    let four = c.note-4.new.breaks.items in
+    let five = c.judge_params.new.breaks.items in
     let named = c.slice.ensures in
     let type = body_type p k m c.slice.result.now named (option_copied c.in_ok-of.of) c.in_ok-of.ensures.typed in
-    adds_behind before four c.extend_from_slice.new.self.items c.as_slice.result.now (own ++ params) (at_slots (λ n. site.Node k.name m.name m.alt n) (body.rules [])) c.extend_from_slice.result
+    adds_behind before five c.extend_from_slice.new.self.items c.as_slice.result.now (own ++ params) (at_slots (λ n. site.Node k.name m.name m.alt n) (body.rules [])) c.extend_from_slice.result
     c.extend_from_slice.ensures.items
-    (adds_then before three four own params
-    (three_noted s (K1, not known) (K7, wrongly) (K8, misses) before one two three
+    (adds_then before four five own params
+    (four_noted s (K1, not known) (K7, wrongly) (K8, misses) (K9, again) before one two three four
     (noted s K1 (not c.is_known.result) (not known) before one (ap not c.is_known.ensures) c.in_ok-note.ensures)
-    (noted s K7 c.in_ok-wrongly.wrongly wrongly one two (c.in_ok-wrongly.ensures ∙ ap (λ ks. is_overridden_wrongly m (first_some (method_called m.name) ks)) c.requires) c.in_ok-note-2.ensures)
-    (noted s K8 c.misses_result.result misses two three (c.misses_result.ensures ∙ ap (is_no_result p m) type) c.in_ok-note-3.ensures))
+    (noted s K7 c.in_ok-wrongly.wrongly wrongly one two (c.in_ok-wrongly.ensures ∙ ap (λ ks. is_overridden_wrongly m (first_some (method_called m.name) ks)) c.requires.above) c.in_ok-note-2.ensures)
+    (noted s K8 c.misses_result.result misses two three (c.misses_result.ensures ∙ ap (is_no_result p m) type) c.in_ok-note-3.ensures)
+    (noted s K9 c.is_method_again.result again three four c.is_method_again.ensures c.in_ok-note-4.ensures))
     c.in_ok-judge_params.ensures)
     (subst (λ xs. Adds [] xs (at_slots (λ n. site.Node k.name m.name m.alt n) (body.rules []))) (sym c.as_slice.ensures.value)
     (subst (λ xs. Adds xs c.judge.new.breaks.items (at_slots (λ n. site.Node k.name m.name m.alt n) (body.rules []))) c.new-within.ensures.items

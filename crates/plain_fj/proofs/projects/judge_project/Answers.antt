@@ -1,7 +1,12 @@
 use Rattle.std.proofs.Common.{◌≤◌, [], length, arith, ◌∙◌}
 use Rattle.cfj_model.specs.Judging.{judged_class}
-use Rattle.plain_fj.proofs.Broken.{added_more, added_all, all_judged, class_of_table, drop_get}
+use Rattle.plain_fj.proofs.Broken.{added_more, added_all, all_judged, class_of_table}
+use Rattle.plain_fj.proofs.Law.{alts_kept}
+use Rattle.plain_fj.proofs.Members.{drop_get}
 use Rattle.plain_fj.proofs.projects.judge_project.Goals as goal
+
+pub judge_class-requires : goal.judge_class-requires
+judge_class-requires c = alts_kept c.args.project.now c.class_count-place-end.ensures.kept c.class.result.now (c.each.place, c.class.ensures)
 
 pub each-preserved : goal.each-preserved
 each-preserved c =

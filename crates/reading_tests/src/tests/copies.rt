@@ -83,6 +83,34 @@ fn a_class_is_copied_with_all_its_parts(rt: HostRuntime) -> Result<(), Fail> {
     Ok(())
 }
 
+const ALTERNATIVES: &str =
+    "class A extends B { @F C f; D g; @G D f; A() { super(); } @F C m() { return this; } C n() { return this; } @G C m(D x) { return x; } }";
+
+/// The alts of the last field and the last method of a copy of the class in a text; nothing where the text is no class.
+fn last_alts_of_copy(alloc: Global, project: &Project) -> Result<Option<[u16; 2]>, AllocError> {
+    let Ok(class) = parse_class(alloc, ALTERNATIVES, project.model()) else {
+        return Ok(None);
+    };
+    let copy = class.copy(alloc)?;
+    match (copy.fields.slice().last(), copy.methods.slice().last()) {
+        (Some(field), Some(method)) => Ok(Some([field.alt, method.alt])),
+        _ => Ok(None),
+    }
+}
+
+#[test]
+fn members_of_one_name_are_copied_with_their_alts(rt: HostRuntime) -> Result<(), Fail> {
+    let alloc = rt.alloc();
+    let mut agree = false;
+    if let Some(project) = project_of(alloc, MODEL)? {
+        if let Some(alts) = last_alts_of_copy(alloc, &project)? {
+            agree = alts == [1, 1];
+        }
+    }
+    assert!(rt; agree);
+    Ok(())
+}
+
 #[test]
 fn a_feature_model_is_copied(rt: HostRuntime) -> Result<(), Fail> {
     let alloc = rt.alloc();
@@ -107,7 +135,7 @@ fn a_member_is_copied(rt: HostRuntime) -> Result<(), Fail> {
             Want::Method,
         ) {
             if let Member::Method(copy) = member.copy(alloc)? {
-                agree = copy.name.text() == "m" && copy.params.slice().len() == 1;
+                agree = copy.name.text() == "m" && copy.alt == 0 && copy.params.slice().len() == 1;
             }
         }
     }

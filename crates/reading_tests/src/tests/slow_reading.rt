@@ -343,8 +343,8 @@ fn slowly_told(alloc: Global, text: &str) -> Result<String, AllocError> {
 /// Texts of which each prefix has a fault of its tokens or its grammar, or is read.
 const TEXTS: [&str; 3] = [
     "features F, G, tru, tr, t; constraint !(F & true) -> G | F <-> F; constraint F; @F @G class A extends B { A() { super(); } }",
-    "features F; class A extends B { @F C f; D g; A(@F C f, D g) { super(f, @F g); @F this.f = f; this.g = g; } } class E extends A { E() { super(); } }",
-    "features F; class A extends B { A() { super(); } C m(@F D x, D y) { return ((A) (x).f).k(new B(x, @F this), (x)); } @F C n() { return this; } }",
+    "features F; class A extends B { @F C f; D f; A(@F C f, D f) { super(f, @F g); @F this.f = f; this.f = f; } } class E extends A { E() { super(); } }",
+    "features F; class A extends B { A() { super(); } C m(@F D x, D y) { return ((A) (x).f).k(new B(x, @F this), (x)); } @F C m() { return this; } }",
 ];
 
 #[test]

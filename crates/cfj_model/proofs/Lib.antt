@@ -1,3 +1,4 @@
+mod Paths
 pub mod ExprCases
 pub mod Members
-mod Paths
+pub mod Positions

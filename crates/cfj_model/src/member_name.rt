@@ -6,7 +6,7 @@ use cfj_words::Name;
 use std::alloc::{AllocError, Global};
 
 /// A field or a method of a class: the class, the member's name and its alt.
-#[derive(Debug, Drop)]
+#[derive(Debug, Drop, PartialEq, Eq, PartialOrd, Ord, Hash)]
 pub enum MemberName {
     /// A field of a class.
     Field(Name, Name, u16),

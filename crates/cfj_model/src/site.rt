@@ -12,7 +12,7 @@ use std::fmt;
 ///
 /// The third part of a field, a method, a parameter of one and a node of its body is the member's alt: how many members of its
 /// kind and name stand before it in its class. The last number of the others is a slot.
-#[derive(Debug, Drop)]
+#[derive(Debug, Drop, PartialEq, Eq, PartialOrd, Ord, Hash)]
 pub enum Site {
     /// The feature model.
     Model,
@@ -37,7 +37,7 @@ pub enum Site {
 }
 
 /// A rule of Featherweight Java as this project numbers them: of declarations, then of expressions.
-#[derive(Clone, Copy, Debug, PartialEq, Eq)]
+#[derive(Clone, Copy, Debug, PartialEq, Eq, PartialOrd, Ord, Hash)]
 pub enum Rule {
     /// A class name is `Object` or declared.
     K1,

@@ -1,4 +1,5 @@
 pub mod Formulas
+pub mod Kept
 pub mod Logs
 pub mod Selections
 pub mod Sides

@@ -58,6 +58,8 @@ pub fn judge_project(alloc: Global, project: &Project, budget: u32) -> Result<Fi
         verdict,
         log,
     } = search_first(alloc, project, most)?;
+    // Each undecided entry has the log, so that it is shared and not copied for each.
+    let log = log.shared(alloc)?;
     let entries = entries_of(alloc, questions, limited, &log)?;
     let verdict = verdict_of(verdict, limited, log)?;
     Ok(Findings {

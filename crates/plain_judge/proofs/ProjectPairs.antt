@@ -160,8 +160,8 @@ module _ (at : ℕ → Site) (p : Table) (g : Environment) where
 placed_pairs : {A : Type 0} (of : Placed A → List RuleAt) (pairs : A → List Pair) → ((q : Placed A) → map pair_of (of q) ≡ pairs q.item)
     → (before xs : List A) → map pair_of (flat_map of (placed_behind before xs)) ≡ flat_map pairs xs
 placed_pairs of pairs each before [] = refl
-placed_pairs of pairs each before (x ∷ xs) =
-    let here = record { before = before; item = x } in
+placed_pairs {A = A} of pairs each before (x ∷ xs) =
+    let here : Placed A = record { before = before; item = x } in
     pairs_append (of here) (flat_map of (placed_behind (before ++ x ∷ []) xs)) (pairs x) (flat_map pairs xs) (each here)
     (placed_pairs of pairs each (before ++ x ∷ []) xs)
 

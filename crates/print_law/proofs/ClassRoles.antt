@@ -73,6 +73,7 @@ module _ (features : List (List ℕ)) (distinct : are_distinct features ≡ true
     abbrev roles_one : Declared → List Role → List Role
     roles_one d rest = roles_marks d.marks (used_name d.of ∷ (role d.name ∷ rest))
 
+    -- the tally behind them
     abbrev behind_params : Tally → List Param → Tally
     behind_params t [] = t
     behind_params t (p ∷ ps) = behind_params (counted t (role p.name)) ps

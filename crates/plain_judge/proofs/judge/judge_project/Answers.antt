@@ -3,7 +3,9 @@ use Rattle.cfj_model.specs.declared.feature_model.FeatureModel.{FeatureModel}
 use Rattle.unit_facts.specs.Diagnostics.{IsChecked}
 use Rattle.unit_facts.specs.declared.entry.Entry.{Entry}
 use Rattle.unit_facts.specs.declared.entry.Verdict.{Verdict}
-use Rattle.plain_judge.specs.Concluding.{verdict_of}
+use Rattle.std.specs.List.{filter_map}
+use Rattle.cfj_logic.specs.Sides.{Sides}
+use Rattle.plain_judge.specs.Concluding.{entry_of, verdict_of}
 use Rattle.plain_judge.proofs.Concluded.{IsMost, done_is_checked}
 use Rattle.plain_judge.proofs.Limits.{few_features, most_if_limited, most_if_not}
 use Rattle.plain_judge.proofs.judge.judge_project.Goals as goal
@@ -28,6 +30,10 @@ pub returns : goal.returns
 returns c =
     let line = c.args.project.now in
     let search = c.in_ok-questions.field-0 in
-    subst (λ (v : Verdict). IsChecked line c.args.budget v c.of.result) (sym c.in_ok-verdict.ensures)
-    (subst (λ (es : List Entry). IsChecked line c.args.budget (verdict_of c.is_limited-limited.result search.log search.verdict) es) (sym (c.of.ensures ∙ c.in_ok-entries.ensures))
-    (done_is_checked line c.args.budget c.if-limited.most c.is_limited-limited.result search c.requires.some (is_most c) c.in_ok-questions.ensures))
+    let limited = c.is_limited-limited.result in
+    let log : c.in_ok-log.log ≡ search.log = c.in_ok-log.ensures in
+    let verdict = c.in_ok-verdict.ensures ∙ ap (λ (l : List Sides). verdict_of limited l search.verdict) log in
+    let entries = c.of.ensures ∙ c.in_ok-entries.ensures ∙ ap (λ (l : List Sides). filter_map (entry_of limited l) search.questions.items) log in
+    subst (λ (v : Verdict). IsChecked line c.args.budget v c.of.result) (sym verdict)
+    (subst (λ (es : List Entry). IsChecked line c.args.budget (verdict_of limited search.log search.verdict) es) (sym entries)
+    (done_is_checked line c.args.budget c.if-limited.most limited search c.requires.some (is_most c) c.in_ok-questions.ensures))

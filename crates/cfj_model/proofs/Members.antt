@@ -1,7 +1,7 @@
 -- Numbering the members of a list: each alt becomes the number of the namesakes before.
 use Rattle.std.proofs.Common.{◌≡◌, ℕ, suc, ◌+◌, ◌<◌, ◌≤◌, ◌==◌, Bool, true, false, not, cond, ◌&&◌, ◌||◌, List, [], ◌∷◌, ◌++◌, length, map, filter, nat_lt, refl, sym, ap, subst, ◌∙◌, bytes_eq, arith, length-append}
 use Rattle.std.specs.List.{list_all, sum_by}
-use Rattle.std.proofs.lemmas.Bool.{and_from, and_parts, or_right, eq-eqb, eqb-true, lt-ltb}
+use Rattle.std.proofs.lemmas.Bool.{and_from, and_parts, eq-eqb, eqb-true, lt-ltb}
 use Rattle.std.proofs.lemmas.List.{map-append}
 use Rattle.std.proofs.lemmas.List.Elements.{filter-append}
 use Rattle.std.proofs.lemmas.List.Sums.{sum_by-cons}
@@ -112,9 +112,9 @@ module _ {A : Type 0} (name_of : A → List ℕ) (alt_of : A → ℕ) (with_alt 
         let y : A = with_alt x n in
         let named : name_of y ≡ name_of x = h.named x n in
         let is : namesakes name_of (record { before = others; item = y }) ≡ n =
-            by_names others y ∙ ap (λ ns. same_names ns (name_of y)) same ∙ ap (same_names (map name_of before)) named ∙ sym (by_names before x) in
+        by_names others y ∙ ap (λ ns. same_names ns (name_of y)) same ∙ ap (same_names (map name_of before)) named ∙ sym (by_names before x) in
         let longer : map name_of (others ++ y ∷ []) ≡ map name_of (before ++ x ∷ []) =
-            map-append name_of others (y ∷ []) ∙ ap (λ ns. ns ++ name_of y ∷ []) same ∙ ap (λ w. map name_of before ++ w ∷ []) named ∙ sym (map-append name_of before (x ∷ [])) in
+        map-append name_of others (y ∷ []) ∙ ap (λ ns. ns ++ name_of y ∷ []) same ∙ ap (λ w. map name_of before ++ w ∷ []) named ∙ sym (map-append name_of before (x ∷ [])) in
         and_from _ _ (eq-eqb _ _ (h.given x n ∙ sym is)) (numbers (others ++ y ∷ []) (before ++ x ∷ []) xs longer)
 
     pub numbering_numbers : (xs : List A) → are_numbered_behind [] (numbered_behind [] xs) ≡ true
@@ -130,7 +130,7 @@ module _ {A : Type 0} (name_of : A → List ℕ) (alt_of : A → ℕ) (with_alt 
         let y : A = with_alt x n in
         let longer : map name_of (before ++ x ∷ []) ≡ map name_of before ++ name_of x ∷ [] = map-append name_of before (x ∷ []) in
         let more : same_names (map name_of before) w ≤ same_names (map name_of (before ++ x ∷ [])) w =
-            subst (λ ns. same_names (map name_of before) w ≤ same_names ns w) (sym longer) (no_fewer (map name_of before) (name_of x) w) in
+        subst (λ ns. same_names (map name_of before) w ≤ same_names ns w) (sym longer) (no_fewer (map name_of before) (name_of x) w) in
         and_from _ _ (by (bytes_eq (name_of y) w) refl) (later_greater w alt (before ++ x ∷ []) xs (omega (arith, lt, more)))
       where
         by : (b : Bool) → bytes_eq (name_of (with_alt x (namesakes name_of (record { before = before; item = x })))) w ≡ b → (not b || nat_lt alt (alt_of (with_alt x (namesakes name_of (record { before = before; item = x }))))) ≡ true
@@ -150,9 +150,9 @@ module _ {A : Type 0} (name_of : A → List ℕ) (alt_of : A → ℕ) (with_alt 
         let is : alt_of y ≡ same_names (map name_of before) (name_of x) = h.given x n ∙ by_names before x in
         let longer : map name_of (before ++ x ∷ []) ≡ map name_of before ++ name_of x ∷ [] = map-append name_of before (x ∷ []) in
         let greater : same_names (map name_of (before ++ x ∷ [])) (name_of x) ≡ same_names (map name_of before) (name_of x) + 1 =
-            ap (λ ns. same_names ns (name_of x)) longer ∙ one_greater (map name_of before) (name_of x) in
+        ap (λ ns. same_names ns (name_of x)) longer ∙ one_greater (map name_of before) (name_of x) in
         let less : alt_of y < same_names (map name_of (before ++ x ∷ [])) (name_of y) =
-            subst (λ w. alt_of y < same_names (map name_of (before ++ x ∷ [])) w) (sym named) (omega (arith, is, greater)) in
+        subst (λ w. alt_of y < same_names (map name_of (before ++ x ∷ [])) w) (sym named) (omega (arith, is, greater)) in
         and_from _ _ (later_greater (name_of y) (alt_of y) (before ++ x ∷ []) xs less) (alts_of_numbered_rise (before ++ x ∷ []) xs)
 
 -- ---- fields

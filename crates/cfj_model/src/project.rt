@@ -107,11 +107,7 @@ impl Project {
     /// # Errors
     ///
     /// There is no memory for it.
-    pub fn with_model(
-        &self,
-        alloc: Global,
-        model: Arc<FeatureModel>,
-    ) -> Result<Project, AllocError>
+    pub fn with_model(&self, alloc: Global, model: Arc<FeatureModel>) -> Result<Project, AllocError>
         requires { IsProject (record self.now { model = model.value }) }
         ensures { IfOk result (λ p. p ≡ record self.now { model = model.value }) }
     {

@@ -11,6 +11,7 @@ use crate::mode::{Mode, Node, Owner};
 use crate::names::both_names;
 use cfj_model::{Class, Colors, Field, Items};
 use fj_symbols::Symbol;
+use member_alts::{number_fields, number_methods};
 use std::alloc::{AllocError, Global};
 use std::mem;
 
@@ -145,10 +146,12 @@ impl<'a> Machine<'a> {
         Ok(())
     }
 
-    /// The class in hand is whole; nothing of it stays in hand.
+    /// The class in hand is whole, and the alts of its members are known; nothing of it stays in hand.
     pub(crate) fn push_class(&mut self, alloc: Global) -> Result<(), AllocError>
         ensures { OnOk result (machine_seen self.new ≡ spec.with_class (machine_seen self.old)) }
     {
+        number_fields(alloc, &mut self.fields)?;
+        number_methods(alloc, &mut self.methods)?;
         let (name, parent) = both_names(alloc, self.name, self.parent)?;
         let fields = mem::replace(&mut self.fields, Vec::new(alloc));
         let ctor = mem::replace(&mut self.ctor, no_ctor(alloc));

@@ -19,6 +19,7 @@ tally_seen t =
       params = t.params;
       sends = t.sends;
       assigns = t.assigns;
+      param_names = t.param_names;
       nodes = t.nodes;
       size = t.size;
     }

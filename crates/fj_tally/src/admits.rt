@@ -41,9 +41,9 @@ impl<'a> Tally<'a> {
             Role::MarkName(name) => self.admit_mark(name),
             Role::FormulaName(name) => Ok(self.admit_formula_name(name)),
             Role::ClassName(name) => self.admit_class(name),
-            Role::FieldName(name) => self.admit_field(name),
-            Role::MethodName(name) => self.admit_method(name),
-            Role::ParamName(name) => self.admit_param(name),
+            Role::FieldName(name) => Ok(self.admit_field(name)),
+            Role::MethodName(name) => Ok(self.admit_method(name)),
+            Role::ParamName(name) => Ok(self.admit_param(name)),
             Role::MethodParamName(name) => self.admit_method_param(name),
             Role::SentName(name) => Ok(self.admit_sent(name)),
             Role::AssignedName(name) => Ok(self.admit_assigned(name)),
@@ -110,67 +110,59 @@ impl<'a> Tally<'a> {
         {
             return Ok(false);
         }
-        self.fields.clear();
-        self.methods.clear();
-        self.params.clear();
+        self.fields = 0;
+        self.methods = 0;
+        self.params = 0;
         self.sends = 0;
         self.assigns = 0;
+        self.param_names.clear();
         self.nodes = 0;
         self.count_declaration();
         Ok(true)
     }
 
-    fn admit_field(&mut self, name: &'a str) -> Result<bool, AllocError>
-        ensures { IfOk result (Admits (tally_seen self.old) (spec.field_name name.now) (tally_seen self.new)) }
+    fn admit_field(&mut self, name: &str) -> bool
+        ensures { Admits (tally_seen self.old) (spec.field_name name.now) (tally_seen self.new) result }
     {
-        if is_long(name)
-            || self.fields.len() >= MOST_FIELDS
-            || self.has_full_size()
-            || !self.fields.add(name)?
-        {
-            return Ok(false);
+        if is_long(name) || self.fields >= MOST_FIELDS || self.has_full_size() {
+            return false;
         }
+        self.fields += 1;
         self.count_declaration();
-        Ok(true)
+        true
     }
 
-    fn admit_method(&mut self, name: &'a str) -> Result<bool, AllocError>
-        ensures { IfOk result (Admits (tally_seen self.old) (spec.method_name name.now) (tally_seen self.new)) }
+    fn admit_method(&mut self, name: &str) -> bool
+        ensures { Admits (tally_seen self.old) (spec.method_name name.now) (tally_seen self.new) result }
     {
-        if is_long(name)
-            || self.methods.len() >= MOST_METHODS
-            || self.has_full_size()
-            || !self.methods.add(name)?
-        {
-            return Ok(false);
+        if is_long(name) || self.methods >= MOST_METHODS || self.has_full_size() {
+            return false;
         }
-        self.params.clear();
+        self.methods += 1;
+        self.param_names.clear();
         self.nodes = 0;
         self.count_declaration();
-        Ok(true)
+        true
     }
 
-    fn admit_param(&mut self, name: &'a str) -> Result<bool, AllocError>
-        ensures { IfOk result (Admits (tally_seen self.old) (spec.param_name name.now) (tally_seen self.new)) }
+    fn admit_param(&mut self, name: &str) -> bool
+        ensures { Admits (tally_seen self.old) (spec.param_name name.now) (tally_seen self.new) result }
     {
-        if is_long(name)
-            || self.params.len() >= MOST_IN_CTOR
-            || self.has_full_size()
-            || !self.params.add(name)?
-        {
-            return Ok(false);
+        if is_long(name) || self.params >= MOST_IN_CTOR || self.has_full_size() {
+            return false;
         }
+        self.params += 1;
         self.count_declaration();
-        Ok(true)
+        true
     }
 
     fn admit_method_param(&mut self, name: &'a str) -> Result<bool, AllocError>
         ensures { IfOk result (Admits (tally_seen self.old) (spec.method_param_name name.now) (tally_seen self.new)) }
     {
         if is_long(name)
-            || self.params.len() >= MOST_PARAMS
+            || self.param_names.len() >= MOST_PARAMS
             || self.has_full_size()
-            || !self.params.add(name)?
+            || !self.param_names.add(name)?
         {
             return Ok(false);
         }

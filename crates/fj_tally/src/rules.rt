@@ -88,9 +88,9 @@ impl<'a> Tally<'a> {
             Role::MarkName(name) => self.broken_by_mark(alloc, name),
             Role::FormulaName(name) => self.broken_by_formula_name(alloc, name),
             Role::ClassName(name) => self.broken_by_class(alloc, name),
-            Role::FieldName(name) => self.broken_by_field(alloc, name),
-            Role::MethodName(name) => self.broken_by_method(alloc, name),
-            Role::ParamName(name) => self.broken_by_param(alloc, name),
+            Role::FieldName(name) => Ok(self.broken_by_field(name)),
+            Role::MethodName(name) => Ok(self.broken_by_method(name)),
+            Role::ParamName(name) => Ok(self.broken_in_list(name, self.params)),
             Role::MethodParamName(name) => self.broken_by_method_param(alloc, name),
             Role::SentName(name) => Ok(self.broken_in_list(name, self.sends)),
             Role::AssignedName(name) => Ok(self.broken_in_list(name, self.assigns)),
@@ -215,52 +215,28 @@ impl<'a> Tally<'a> {
         Ok(self.broken_by_size())
     }
 
-    fn broken_by_field(&self, alloc: Global, name: &str) -> Result<Option<FaultKind>, AllocError>
-        requires { is_identifier name.now ≡ true }
-        ensures { IfOk result (λ fault. fault ≡ spec.broken_by (tally_seen self.now) (spec.field_name name.now)) }
+    fn broken_by_field(&self, name: &str) -> Option<FaultKind>
+        ensures { result ≡ spec.broken_by (tally_seen self.now) (spec.field_name name.now) }
     {
         if is_long(name) {
-            return Ok(Some(FaultKind::Limit(LimitKind::Name)));
+            return Some(FaultKind::Limit(LimitKind::Name));
         }
-        if self.fields.has(name) {
-            return Ok(Some(twice(alloc, name)?));
+        if self.fields >= MOST_FIELDS {
+            return Some(FaultKind::Limit(LimitKind::Fields));
         }
-        if self.fields.len() >= MOST_FIELDS {
-            return Ok(Some(FaultKind::Limit(LimitKind::Fields)));
-        }
-        Ok(self.broken_by_size())
+        self.broken_by_size()
     }
 
-    fn broken_by_method(&self, alloc: Global, name: &str) -> Result<Option<FaultKind>, AllocError>
-        requires { is_identifier name.now ≡ true }
-        ensures { IfOk result (λ fault. fault ≡ spec.broken_by (tally_seen self.now) (spec.method_name name.now)) }
+    fn broken_by_method(&self, name: &str) -> Option<FaultKind>
+        ensures { result ≡ spec.broken_by (tally_seen self.now) (spec.method_name name.now) }
     {
         if is_long(name) {
-            return Ok(Some(FaultKind::Limit(LimitKind::Name)));
+            return Some(FaultKind::Limit(LimitKind::Name));
         }
-        if self.methods.has(name) {
-            return Ok(Some(twice(alloc, name)?));
+        if self.methods >= MOST_METHODS {
+            return Some(FaultKind::Limit(LimitKind::Methods));
         }
-        if self.methods.len() >= MOST_METHODS {
-            return Ok(Some(FaultKind::Limit(LimitKind::Methods)));
-        }
-        Ok(self.broken_by_size())
-    }
-
-    fn broken_by_param(&self, alloc: Global, name: &str) -> Result<Option<FaultKind>, AllocError>
-        requires { is_identifier name.now ≡ true }
-        ensures { IfOk result (λ fault. fault ≡ spec.broken_by (tally_seen self.now) (spec.param_name name.now)) }
-    {
-        if is_long(name) {
-            return Ok(Some(FaultKind::Limit(LimitKind::Name)));
-        }
-        if self.params.has(name) {
-            return Ok(Some(twice(alloc, name)?));
-        }
-        if self.params.len() >= MOST_IN_CTOR {
-            return Ok(Some(FaultKind::Limit(LimitKind::Ctor)));
-        }
-        Ok(self.broken_by_size())
+        self.broken_by_size()
     }
 
     fn broken_by_method_param(
@@ -274,10 +250,10 @@ impl<'a> Tally<'a> {
         if is_long(name) {
             return Ok(Some(FaultKind::Limit(LimitKind::Name)));
         }
-        if self.params.has(name) {
+        if self.param_names.has(name) {
             return Ok(Some(twice(alloc, name)?));
         }
-        if self.params.len() >= MOST_PARAMS {
+        if self.param_names.len() >= MOST_PARAMS {
             return Ok(Some(FaultKind::Limit(LimitKind::Params)));
         }
         Ok(self.broken_by_size())

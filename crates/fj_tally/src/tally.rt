@@ -6,19 +6,21 @@ ghost use Rattle.cfj_model.specs.Roles as spec;
 use crate::met::Met;
 use std::alloc::Global;
 
-/// What was met before a place: all features and class names, the names of the class in hand, the parameters of the list in
-/// hand, the marks of the node in hand, and how many nodes stand in all formulas and in the body in hand, with the size.
+/// What was met before a place: all features and class names, the marks of the node in hand, the names of the parameters of the method
+/// in hand, and how many items each list of the class in hand has and how many nodes stand in all formulas and in the body in hand, with
+/// the size.
 #[derive(Drop)]
 pub struct Tally<'a> {
     pub features: Met<'a>,
     pub formula_nodes: usize,
     pub marks: Met<'a>,
     pub classes: Met<'a>,
-    pub fields: Met<'a>,
-    pub methods: Met<'a>,
-    pub params: Met<'a>,
+    pub fields: usize,
+    pub methods: usize,
+    pub params: usize,
     pub sends: usize,
     pub assigns: usize,
+    pub param_names: Met<'a>,
     pub nodes: usize,
     pub size: usize,
 }
@@ -35,11 +37,12 @@ impl<'a> Tally<'a> {
             formula_nodes: 0,
             marks: Met::new(alloc),
             classes: Met::new(alloc),
-            fields: Met::new(alloc),
-            methods: Met::new(alloc),
-            params: Met::new(alloc),
+            fields: 0,
+            methods: 0,
+            params: 0,
             sends: 0,
             assigns: 0,
+            param_names: Met::new(alloc),
             nodes: 0,
             size: 0,
         }

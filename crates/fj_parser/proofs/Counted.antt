@@ -34,15 +34,15 @@ use Rattle.fj_parser.proofs.KeptNames.{NoneHolds, none_holds, NameFits, name_fit
 
 -- Only the counts of the lists and of the nodes matter: marks, names and the size may change.
 marked : {place : Place} {n : InHand} {t : Tally} (ms : List (List ℕ)) → IsCounted place n t → IsCounted place n (record t { marks = ms })
-marked ms h = record { empty = h.empty; features = h.features; params = h.params; sends = h.sends; assigns = h.assigns; slots = h.slots; few_features = h.few_features; few_params = h.few_params; few_sends = h.few_sends; few_assigns = h.few_assigns; few_nodes = h.few_nodes }
+marked ms h = record { empty = h.empty; features = h.features; params = h.params; sends = h.sends; assigns = h.assigns; slots = h.slots; few_features = h.few_features; few_params = h.few_params; few_param_names = h.few_param_names; few_sends = h.few_sends; few_assigns = h.few_assigns; few_nodes = h.few_nodes }
 
 -- one more node of a formula
 with_formula_node : {place : Place} {n : InHand} {t : Tally} → IsCounted place n t → IsCounted place n (record t { formula_nodes = t.formula_nodes + 1 })
-with_formula_node h = record { empty = h.empty; features = h.features; params = h.params; sends = h.sends; assigns = h.assigns; slots = h.slots; few_features = h.few_features; few_params = h.few_params; few_sends = h.few_sends; few_assigns = h.few_assigns; few_nodes = h.few_nodes }
+with_formula_node h = record { empty = h.empty; features = h.features; params = h.params; sends = h.sends; assigns = h.assigns; slots = h.slots; few_features = h.few_features; few_params = h.few_params; few_param_names = h.few_param_names; few_sends = h.few_sends; few_assigns = h.few_assigns; few_nodes = h.few_nodes }
 
 -- one more node of an expression
 one_node : {place : Place} {n : InHand} {t : Tally} → IsCounted place n t → t.nodes < most_nodes → IsCounted place n (with_node t)
-one_node h few = record { empty = h.empty; features = h.features; params = h.params; sends = h.sends; assigns = h.assigns; slots = omega (arith, h.slots); few_features = h.few_features; few_params = h.few_params; few_sends = h.few_sends; few_assigns = h.few_assigns; few_nodes = omega (arith, few) }
+one_node h few = record { empty = h.empty; features = h.features; params = h.params; sends = h.sends; assigns = h.assigns; slots = omega (arith, h.slots); few_features = h.few_features; few_params = h.few_params; few_param_names = h.few_param_names; few_sends = h.few_sends; few_assigns = h.few_assigns; few_nodes = omega (arith, few) }
 
 -- one more feature
 with_feature : (s : State) (t : Tally) (w : List ℕ) → IsCounted before_class (in_hand s) t → broken_by t (feature_name w) ≡ None → IsCounted before_class (record (in_hand s) { features = length (s.features ++ w ∷ []) }) (counted t (feature_name w))
@@ -59,6 +59,7 @@ with_feature s t w h b =
       slots = h.slots;
       few_features = omega (arith, longer, few);
       few_params = h.few_params;
+      few_param_names = h.few_param_names;
       few_sends = h.few_sends;
       few_assigns = h.few_assigns;
       few_nodes = h.few_nodes;
@@ -67,21 +68,41 @@ with_feature s t w h b =
 -- a class's name
 class_named : (n : InHand) (t : Tally) (w : List ℕ) → IsCounted before_class n t → IsCounted before_body n (counted t (class_name w))
 class_named n t w h =
-    record { empty = h.empty.3; features = h.features; params = omega (arith, h.empty.0); sends = omega (arith, h.empty.1); assigns = omega (arith, h.empty.2); slots = omega (arith, h.empty.3); few_features = h.few_features; few_params = omega arith; few_sends = omega arith; few_assigns = omega arith; few_nodes = omega arith }
+    record { empty = h.empty.3; features = h.features; params = omega (arith, h.empty.0); sends = omega (arith, h.empty.1); assigns = omega (arith, h.empty.2); slots = omega (arith, h.empty.3); few_features = h.few_features; few_params = omega arith; few_param_names = omega arith; few_sends = omega arith; few_assigns = omega arith; few_nodes = omega arith }
 
 -- a method's name
 method_named : (n : InHand) (t : Tally) (w : List ℕ) → IsCounted before_method n t → IsCounted before_method n (counted t (method_name w))
 method_named n t w h =
-    record { empty = h.empty; features = h.features; params = omega (arith, h.empty.0); sends = h.sends; assigns = h.assigns; slots = omega (arith, h.empty.1); few_features = h.few_features; few_params = omega arith; few_sends = h.few_sends; few_assigns = h.few_assigns; few_nodes = omega arith }
+    record { empty = h.empty; features = h.features; params = omega (arith, h.empty.0); sends = h.sends; assigns = h.assigns; slots = omega (arith, h.empty.1); few_features = h.few_features; few_params = h.few_params; few_param_names = omega arith; few_sends = h.few_sends; few_assigns = h.few_assigns; few_nodes = omega arith }
 
 -- a field's name
 with_field : {n : InHand} {t : Tally} (w : List ℕ) → IsCounted before_body n t → IsCounted before_body n (counted t (field_name w))
-with_field w h = record { empty = h.empty; features = h.features; params = h.params; sends = h.sends; assigns = h.assigns; slots = h.slots; few_features = h.few_features; few_params = h.few_params; few_sends = h.few_sends; few_assigns = h.few_assigns; few_nodes = h.few_nodes }
+with_field w h = record { empty = h.empty; features = h.features; params = h.params; sends = h.sends; assigns = h.assigns; slots = h.slots; few_features = h.few_features; few_params = h.few_params; few_param_names = h.few_param_names; few_sends = h.few_sends; few_assigns = h.few_assigns; few_nodes = h.few_nodes }
 
--- one more parameter
-with_param : (s : State) (t : Tally) (x : Param) (w : List ℕ) → IsCounted before_body (in_hand s) t → length t.params < most_in_ctor → IsCounted before_body (record (in_hand s) { params = length (s.params ++ x ∷ []) }) (record t { marks = []; params = t.params ++ w ∷ []; size = t.size + 1 })
-with_param s t x w h few =
-    let longer = length-append t.params (w ∷ []) in
+-- one more parameter of a constructor
+with_ctor_param : (s : State) (t : Tally) (x : Param) (w : List ℕ) → IsCounted before_body (in_hand s) t → broken_by t (param_name w) ≡ None → IsCounted before_body (record (in_hand s) { params = length (s.params ++ x ∷ []) }) (counted t (param_name w))
+with_ctor_param s t x w h b =
+    let fits : CountFits w t.params most_in_ctor t.size = count_fits w t.params most_in_ctor t.size (Limit limit.Name) (Limit limit.Ctor) (Limit limit.Size) b in
+    record {
+      empty = h.empty;
+      features = h.features;
+      params = omega (arith, length-append s.params (x ∷ []), h.params);
+      sends = h.sends;
+      assigns = h.assigns;
+      slots = h.slots;
+      few_features = h.few_features;
+      few_params = omega (arith, fits.few);
+      few_param_names = h.few_param_names;
+      few_sends = h.few_sends;
+      few_assigns = h.few_assigns;
+      few_nodes = h.few_nodes;
+    }
+
+-- one more of a method
+with_method_param : (s : State) (t : Tally) (x : Param) (w : List ℕ) → IsCounted before_body (in_hand s) t → broken_by t (method_param_name w) ≡ None → IsCounted before_body (record (in_hand s) { params = length (s.params ++ x ∷ []) }) (counted t (method_param_name w))
+with_method_param s t x w h b =
+    let fits : NameFits w t.param_names most_params t.size = name_fits w t.param_names most_params t.size (Limit limit.Name) (Twice w) (Limit limit.Params) (Limit limit.Size) b in
+    let longer = length-append t.param_names (w ∷ []) in
     record {
       empty = h.empty;
       features = h.features;
@@ -90,18 +111,12 @@ with_param s t x w h few =
       assigns = h.assigns;
       slots = h.slots;
       few_features = h.few_features;
-      few_params = omega (arith, longer, few);
+      few_params = h.few_params;
+      few_param_names = omega (arith, longer, fits.few);
       few_sends = h.few_sends;
       few_assigns = h.few_assigns;
       few_nodes = h.few_nodes;
     }
-
--- its name is one of few
-few_in_ctor : (t : Tally) (w : List ℕ) → broken_by t (param_name w) ≡ None → length t.params < most_in_ctor
-few_in_ctor t w b = let fits : NameFits w t.params most_in_ctor t.size = name_fits w t.params most_in_ctor t.size (Limit limit.Name) (Twice w) (Limit limit.Ctor) (Limit limit.Size) b in fits.few
-
-few_in_method : (t : Tally) (w : List ℕ) → broken_by t (method_param_name w) ≡ None → length t.params < most_in_ctor
-few_in_method t w b = let fits : NameFits w t.params most_params t.size = name_fits w t.params most_params t.size (Limit limit.Name) (Twice w) (Limit limit.Params) (Limit limit.Size) b in omega (arith, fits.few)
 
 -- one more name that is sent
 with_sent : (s : State) (t : Tally) (x : Sent) (w : List ℕ) → IsCounted before_body (in_hand s) t → broken_by t (sent_name w) ≡ None → IsCounted before_body (record (in_hand s) { sends = length (s.sends ++ x ∷ []) }) (counted t (sent_name w))
@@ -116,6 +131,7 @@ with_sent s t x w h b =
       slots = h.slots;
       few_features = h.few_features;
       few_params = h.few_params;
+      few_param_names = h.few_param_names;
       few_sends = omega (arith, fits.few);
       few_assigns = h.few_assigns;
       few_nodes = h.few_nodes;
@@ -134,6 +150,7 @@ with_assign s t x w h b =
       slots = h.slots;
       few_features = h.few_features;
       few_params = h.few_params;
+      few_param_names = h.few_param_names;
       few_sends = h.few_sends;
       few_assigns = omega (arith, fits.few);
       few_nodes = h.few_nodes;
@@ -143,23 +160,23 @@ with_assign s t x w h b =
 
 -- a constructor ends
 ctor_ended : (n : InHand) (t : Tally) → IsCounted before_body n t → IsCounted before_method (record n { params = 0; sends = 0; assigns = 0 }) t
-ctor_ended n t h = record { empty = (refl, h.empty); features = h.features; params = omega arith; sends = omega arith; assigns = omega arith; slots = h.slots; few_features = h.few_features; few_params = h.few_params; few_sends = h.few_sends; few_assigns = h.few_assigns; few_nodes = h.few_nodes }
+ctor_ended n t h = record { empty = (refl, h.empty); features = h.features; params = omega arith; sends = omega arith; assigns = omega arith; slots = h.slots; few_features = h.few_features; few_params = h.few_params; few_param_names = h.few_param_names; few_sends = h.few_sends; few_assigns = h.few_assigns; few_nodes = h.few_nodes }
 
 -- a method's body ends
 body_ended : (n : InHand) (t : Tally) → IsCounted in_body n t → IsCounted before_method (record n { params = 0; slots = 0 }) t
-body_ended n t h = record { empty = (refl, refl); features = h.features; params = omega arith; sends = h.sends; assigns = h.assigns; slots = omega arith; few_features = h.few_features; few_params = h.few_params; few_sends = h.few_sends; few_assigns = h.few_assigns; few_nodes = h.few_nodes }
+body_ended n t h = record { empty = (refl, refl); features = h.features; params = omega arith; sends = h.sends; assigns = h.assigns; slots = omega arith; few_features = h.few_features; few_params = h.few_params; few_param_names = h.few_param_names; few_sends = h.few_sends; few_assigns = h.few_assigns; few_nodes = h.few_nodes }
 
 -- a class ends
 class_ended : (n : InHand) (t : Tally) → IsCounted before_method n t → IsCounted before_class (record n { params = 0; sends = 0; assigns = 0 }) t
-class_ended n t h = record { empty = (refl, refl, refl, h.empty.1); features = h.features; params = omega arith; sends = omega arith; assigns = omega arith; slots = h.slots; few_features = h.few_features; few_params = h.few_params; few_sends = h.few_sends; few_assigns = h.few_assigns; few_nodes = h.few_nodes }
+class_ended n t h = record { empty = (refl, refl, refl, h.empty.1); features = h.features; params = omega arith; sends = omega arith; assigns = omega arith; slots = h.slots; few_features = h.few_features; few_params = h.few_params; few_param_names = h.few_param_names; few_sends = h.few_sends; few_assigns = h.few_assigns; few_nodes = h.few_nodes }
 
 -- the parameters of a method begin
 params_begun : {n : InHand} {t : Tally} → IsCounted before_method n t → IsCounted before_body n t
-params_begun h = record { empty = h.empty.1; features = h.features; params = h.params; sends = h.sends; assigns = h.assigns; slots = h.slots; few_features = h.few_features; few_params = h.few_params; few_sends = h.few_sends; few_assigns = h.few_assigns; few_nodes = h.few_nodes }
+params_begun h = record { empty = h.empty.1; features = h.features; params = h.params; sends = h.sends; assigns = h.assigns; slots = h.slots; few_features = h.few_features; few_params = h.few_params; few_param_names = h.few_param_names; few_sends = h.few_sends; few_assigns = h.few_assigns; few_nodes = h.few_nodes }
 
 -- a body begins, or the text ends
 pub body_begun : {place : Place} {n : InHand} {t : Tally} → IsCounted place n t → IsCounted in_body n t
-body_begun h = record { empty = tt; features = h.features; params = h.params; sends = h.sends; assigns = h.assigns; slots = h.slots; few_features = h.few_features; few_params = h.few_params; few_sends = h.few_sends; few_assigns = h.few_assigns; few_nodes = h.few_nodes }
+body_begun h = record { empty = tt; features = h.features; params = h.params; sends = h.sends; assigns = h.assigns; slots = h.slots; few_features = h.few_features; few_params = h.few_params; few_param_names = h.few_param_names; few_sends = h.few_sends; few_assigns = h.few_assigns; few_nodes = h.few_nodes }
 
 -- ---- formulas and expressions
 
@@ -210,7 +227,7 @@ all_of_body t (r ∷ rs) are (b, w) h =
 
 -- so many slots are taken, and no more nodes than were counted
 with_slots : {n : InHand} {t : Tally} (k : ℕ) → k ≤ t.nodes → IsCounted in_body n t → IsCounted in_body (record n { slots = k }) t
-with_slots k le h = record { empty = tt; features = h.features; params = h.params; sends = h.sends; assigns = h.assigns; slots = le; few_features = h.few_features; few_params = h.few_params; few_sends = h.few_sends; few_assigns = h.few_assigns; few_nodes = h.few_nodes }
+with_slots k le h = record { empty = tt; features = h.features; params = h.params; sends = h.sends; assigns = h.assigns; slots = le; few_features = h.few_features; few_params = h.few_params; few_param_names = h.few_param_names; few_sends = h.few_sends; few_assigns = h.few_assigns; few_nodes = h.few_nodes }
 
 -- behind a token of an expression
 expression_counted : (s : State) (t : Tally) (token : Token) → IsCounted in_body (in_hand s) t → AreWithin t (expression.emitted s.expression token) → (o : Option expression.State) → expression.step s.features s.expression token ≡ o → IfSome (in_expression (record s { mode = InExpression }) o) (λ x. Counted x (tallied t (expression.emitted s.expression token)))
@@ -286,8 +303,8 @@ counted_in (InParams o) s t (Id w) h b = marked [] h
 counted_in (InParams o) s t CloseParen h b = h
 counted_in (AfterParamComma o) s t At h b = h
 counted_in (AfterParamComma o) s t (Id w) h b = marked [] h
-counted_in (AfterParamType owner.Constructor) s t (Id w) h b = with_param s t _ w h (few_in_ctor t w b.0)
-counted_in (AfterParamType owner.Method) s t (Id w) h b = with_param s t _ w h (few_in_method t w b.0)
+counted_in (AfterParamType owner.Constructor) s t (Id w) h b = with_ctor_param s t _ w h b.0
+counted_in (AfterParamType owner.Method) s t (Id w) h b = with_method_param s t _ w h b.0
 counted_in (AfterParam o) s t Comma h b = h
 counted_in (AfterParam o) s t CloseParen h b = h
 counted_in (AfterParams owner.Constructor) s t OpenBrace h b = h
@@ -328,14 +345,14 @@ counted_more s n t token h w goes =
 -- ---- what others cite
 
 pub counted_start : Counted start nothing
-counted_start = record { empty = (refl, refl, refl, refl); features = omega arith; params = omega arith; sends = omega arith; assigns = omega arith; slots = omega arith; few_features = omega arith; few_params = omega arith; few_sends = omega arith; few_assigns = omega arith; few_nodes = omega arith }
+counted_start = record { empty = (refl, refl, refl, refl); features = omega arith; params = omega arith; sends = omega arith; assigns = omega arith; slots = omega arith; few_features = omega arith; few_params = omega arith; few_param_names = omega arith; few_sends = omega arith; few_assigns = omega arith; few_nodes = omega arith }
 
 -- one more item of each list and two more nodes have slots, and each feature has a place in a set
 pub roomy : (s : State) (t : Tally) → Counted s t → IsRoomy s
 roomy s t h =
     record {
       features = omega (arith, h.features, h.few_features);
-      params = omega (arith, h.params, h.few_params);
+      params = omega (arith, h.params, h.few_params, h.few_param_names);
       sends = omega (arith, h.sends, h.few_sends);
       assigns = omega (arith, h.assigns, h.few_assigns);
       nodes = omega (arith, h.slots, h.few_nodes);

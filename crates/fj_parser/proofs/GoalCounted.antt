@@ -112,7 +112,7 @@ counts_on g features class s n t u token h a =
 -- nothing is in hand but features
 features_counted : (place : Place) (k : ℕ) (features : List (List ℕ)) → k ≤ length features → length features ≤ most_features → IsCounted place (record { features = k; params = 0; sends = 0; assigns = 0; slots = 0 }) (with_features features)
 features_counted place k features le few =
-    record { empty = none place; features = le; params = omega arith; sends = omega arith; assigns = omega arith; slots = omega arith; few_features = few; few_params = omega arith; few_sends = omega arith; few_assigns = omega arith; few_nodes = omega arith }
+    record { empty = none place; features = le; params = omega arith; sends = omega arith; assigns = omega arith; slots = omega arith; few_features = few; few_params = omega arith; few_param_names = omega arith; few_sends = omega arith; few_assigns = omega arith; few_nodes = omega arith }
   where
     none : (p : Place) → IsEmptyAt p (record { features = k; params = 0; sends = 0; assigns = 0; slots = 0 })
     none before_class = (refl, refl, refl, refl)

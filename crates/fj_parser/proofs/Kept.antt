@@ -1,5 +1,5 @@
 -- A tree whose tokens break nothing stands for what a project's type keeps.
-use Rattle.std.proofs.Common.{◌≡◌, ℕ, ◌+◌, ◌≤◌, ◌<◌, true, false, ◌&&◌, List, [], ◌∷◌, ◌++◌, length, map, refl, sym, subst, arith, None, nat_le, bytes_eq}
+use Rattle.std.proofs.Common.{◌≡◌, ℕ, ◌+◌, ◌≤◌, ◌<◌, true, false, ◌&&◌, List, [], ◌∷◌, ◌++◌, length, map, refl, sym, subst, ◌∙◌, arith, None, nat_le, bytes_eq}
 use Rattle.std.specs.Prelude.{sum_by}
 use Rattle.std.specs.List.{list_all}
 use Rattle.std.proofs.lemmas.Bool.{and_parts, and_from, not_from_false, leb-false, le-leb}
@@ -8,9 +8,14 @@ use Rattle.std.proofs.lemmas.List.Sums.{sum_by-cons}
 use Rattle.cfj_model.specs.declared.fault.FaultKind.TheVariants.{Reserved, Twice, Limit}
 use Rattle.cfj_model.specs.declared.fault.LimitKind.TheVariants as limit
 use Rattle.cfj_model.specs.declared.class.Class.{Class}
+use Rattle.cfj_model.specs.declared.class.Constructor.{Constructor}
+use Rattle.cfj_model.specs.declared.class.Field.{Field}
+use Rattle.cfj_model.specs.declared.class.Method.{Method}
+use Rattle.cfj_model.specs.Members.{numbered_fields, numbered_methods}
+use Rattle.cfj_model.proofs.Members.{numbered_fields-length, numbered_fields-all, numbered_field_alts_rise, numbered_methods-length, numbered_methods-all, numbered_methods-sum, numbered_method_alts_rise}
 use Rattle.cfj_words.specs.Names.{is_among, is_identifier, is_short_identifier}
 use Rattle.cfj_words.specs.Tokens.{Token, Id, ClassWord, ExtendsWord, Comma, OpenBrace, Semicolon, CloseBrace}
-use Rattle.cfj_model.specs.ProductLines.{most_features, most_classes, most_fields, most_methods, most_formula_nodes, most_size, object, are_new, are_fields, is_ctor, are_methods, is_class, is_constraint, method_size, class_size, size, IsProject}
+use Rattle.cfj_model.specs.ProductLines.{most_features, most_classes, most_fields, most_methods, most_formula_nodes, most_size, object, are_new, is_field, are_fields, is_ctor, is_method, are_methods, is_class, is_constraint, method_size, class_size, size, IsProject}
 use Rattle.cfj_logic.specs.declared.formula.Formula.{Formula}
 use Rattle.cfj_model.specs.FormulaGrammar.{IffTree, spell_iff, value_iff}
 use Rattle.formula_reader.proofs.Kept.{constraint_kept, Behind, behind_formula}
@@ -89,22 +94,40 @@ class_fits t w e = go (none_holds ((bytes_eq w object, Reserved) ∷ ((is_long w
 -- what is known behind a class
 record ClassKept (n : ℕ) (t : Tally) (k : Class) (rest : List Role) (more : List Token) : Type 0 where
   marks : List (List ℕ)
-  fields : List (List ℕ)
-  methods : List (List ℕ)
-  params : List (List ℕ)
+  fields : ℕ
+  methods : ℕ
+  params : ℕ
   sends : ℕ
   assigns : ℕ
+  param_names : List (List ℕ)
   nodes : ℕ
   new : is_among t.classes k.name ≡ false
   few : length t.classes < most_classes
   is : is_class n k ≡ true
   small : t.size + class_size k ≤ most_size
-  within : AreWithin (record t { marks = marks; classes = t.classes ++ k.name ∷ []; fields = fields; methods = methods; params = params; sends = sends; assigns = assigns; nodes = nodes; size = t.size + class_size k }) rest
+  within : AreWithin (record t { marks = marks; classes = t.classes ++ k.name ∷ []; fields = fields; methods = methods; params = params; sends = sends; assigns = assigns; param_names = param_names; nodes = nodes; size = t.size + class_size k }) rest
   read : are_read more ≡ true
 
-class_is : (features : List (List ℕ)) (k : ClassTree) → is_short_identifier k.name ≡ true → bytes_eq k.name object ≡ false → is_short_identifier k.parent ≡ true → are_fields (length features) (map (value_field features) k.fields) ≡ true → is_ctor (length features) (value_ctor features k) ≡ true → are_methods (length features) (map (value_method features) k.methods) ≡ true → is_class (length features) (value_class features k) ≡ true
+class_is : (features : List (List ℕ)) (k : ClassTree) → is_short_identifier k.name ≡ true → bytes_eq k.name object ≡ false → is_short_identifier k.parent ≡ true → are_fields (length features) (numbered_fields (map (value_field features) k.fields)) ≡ true → is_ctor (length features) (value_ctor features k) ≡ true → are_methods (length features) (numbered_methods (map (value_method features) k.methods)) ≡ true → is_class (length features) (value_class features k) ≡ true
 unfolding is_class
 class_is features k a b c d e f = and_from _ _ (and_from _ _ (and_from _ _ (and_from _ _ (and_from _ _ (and_from _ _ a (not_from_false _ b)) (known features k.marks)) c) d) e) f
+
+-- fields are those of a class once they are numbered
+fields_are : (n : ℕ) (fs : List Field) → length fs ≤ most_fields → list_all (is_field n) fs ≡ true → are_fields n (numbered_fields fs) ≡ true
+fields_are n fs few each =
+    and_from _ _ (and_from _ _ (le-leb (length (numbered_fields fs)) most_fields (omega (arith, numbered_fields-length fs, few))) (numbered_field_alts_rise fs))
+    (numbered_fields-all (is_field n) (λ f alt. refl) fs ∙ each)
+
+-- a method is one with any alt
+method_with_alt : (n : ℕ) (m : Method) (alt : ℕ) → is_method n (record m { alt = alt }) ≡ is_method n m
+unfolding is_method
+method_with_alt n m alt = refl
+
+-- and methods are
+methods_are : (n : ℕ) (ms : List Method) → length ms ≤ most_methods → list_all (is_method n) ms ≡ true → are_methods n (numbered_methods ms) ≡ true
+methods_are n ms few each =
+    and_from _ _ (and_from _ _ (le-leb (length (numbered_methods ms)) most_methods (omega (arith, numbered_methods-length ms, few))) (numbered_method_alts_rise ms))
+    (numbered_methods-all (is_method n) (method_with_alt n) ms ∙ each)
 
 -- what follows a class's constructor, the marks of a class, and its name
 abbrev tokens_behind_ctor : ClassTree → List Token → List Token
@@ -126,24 +149,32 @@ class_kept features t k rest more w r =
     let after : List Token = in_order spell_field k.fields (spell_ctor k (tokens_behind_ctor k more)) in
     let i : (is_identifier k.name ≡ true) × ((is_identifier k.parent && are_read after) ≡ true) = and_parts (is_identifier k.name) (is_identifier k.parent && are_read after) m.read in
     let j : (is_identifier k.parent ≡ true) × (are_read after ≡ true) = and_parts (is_identifier k.parent) (are_read after) i.1 in
-    let u : Tally = record t { marks = []; classes = t.classes ++ k.name ∷ []; fields = []; methods = []; params = []; sends = 0; assigns = 0; nodes = 0; size = t.size + 1 } in
-    let f : FieldsKept (length features) u (map (value_field features) k.fields) (roles_ctor k (roles_behind_ctor k rest)) (spell_ctor k (tokens_behind_ctor k more)) = fields_kept features u k.fields (roles_ctor k (roles_behind_ctor k rest)) (spell_ctor k (tokens_behind_ctor k more)) (omega arith) (omega (arith, fits.small)) m.within.1.1.1.1.1 j.1 in
-    let c : CtorKept (length features) u f.names (t.size + 1 + length (map (value_field features) k.fields)) (value_ctor features k) (roles_behind_ctor k rest) (tokens_behind_ctor k more) = ctor_kept features u f.marks f.names (t.size + 1 + length (map (value_field features) k.fields)) k (roles_behind_ctor k rest) (tokens_behind_ctor k more) f.small f.within f.read in
-    let v : Tally = record u { marks = c.marks; fields = f.names; params = c.params; sends = c.sends; assigns = c.assigns; size = t.size + 1 + length (map (value_field features) k.fields) + ctor_size (value_ctor features k) } in
-    let d : MethodsKept (length features) v (map (value_method features) k.methods) (other_token ∷ rest) (CloseBrace ∷ more) = methods_kept features v k.methods (other_token ∷ rest) (CloseBrace ∷ more) (omega arith) c.small c.within c.read in
+    let fs : List Field = map (value_field features) k.fields in
+    let ms : List Method = map (value_method features) k.methods in
+    let c : Constructor = value_ctor features k in
+    let u : Tally = record t { marks = []; classes = t.classes ++ k.name ∷ []; fields = 0; methods = 0; params = 0; sends = 0; assigns = 0; param_names = []; nodes = 0; size = t.size + 1 } in
+    let f : FieldsKept (length features) u fs (roles_ctor k (roles_behind_ctor k rest)) (spell_ctor k (tokens_behind_ctor k more)) = fields_kept features u k.fields (roles_ctor k (roles_behind_ctor k rest)) (spell_ctor k (tokens_behind_ctor k more)) (omega arith) (omega (arith, fits.small)) m.within.1.1.1.1.1 j.1 in
+    let n : ℕ = t.size + 1 + length fs in
+    let g : CtorKept (length features) u f.count n c (roles_behind_ctor k rest) (tokens_behind_ctor k more) = ctor_kept features u f.marks f.count n k (roles_behind_ctor k rest) (tokens_behind_ctor k more) f.small f.within f.read in
+    let v : Tally = record u { marks = g.marks; fields = f.count; params = g.params; sends = g.sends; assigns = g.assigns; param_names = g.param_names; size = n + ctor_size c } in
+    let d : MethodsKept (length features) v ms (other_token ∷ rest) (CloseBrace ∷ more) = methods_kept features v k.methods (other_token ∷ rest) (CloseBrace ∷ more) (omega arith) g.small g.within g.read in
+    let length_same : length (numbered_fields fs) ≡ length fs = numbered_fields-length fs in
+    let sum_same : sum_by method_size (numbered_methods ms) ≡ sum_by method_size ms = numbered_methods-sum method_size (λ x alt. refl) ms in
+    let size_is : v.size + sum_by method_size ms ≡ t.size + class_size (value_class features k) = omega (arith, length_same, sum_same) in
     record {
       marks = d.marks;
-      fields = f.names;
-      methods = d.names;
+      fields = f.count;
+      methods = d.count;
       params = d.params;
-      sends = c.sends;
-      assigns = c.assigns;
+      sends = g.sends;
+      assigns = g.assigns;
+      param_names = d.param_names;
       nodes = d.nodes;
       new = fits.new;
       few = fits.few;
-      is = class_is features k (short k.name i.0 fits.length_fits) fits.no_object (used_short k.parent t j.0 m.within.1.1.1.0) (and_from _ _ (and_from _ _ (le-leb (length (map (value_field features) k.fields)) most_fields (omega (arith, f.few))) f.new) f.each) c.is (and_from _ _ (and_from _ _ (le-leb (length (map (value_method features) k.methods)) most_methods (omega (arith, d.few))) d.new) d.each);
-      small = omega (arith, d.small);
-      within = sized (record v { marks = d.marks; methods = d.names; params = d.params; nodes = d.nodes }) (v.size + sum_by method_size (map (value_method features) k.methods)) (t.size + class_size (value_class features k)) rest (omega arith) d.within.1;
+      is = class_is features k (short k.name i.0 fits.length_fits) fits.no_object (used_short k.parent t j.0 m.within.1.1.1.0) (fields_are (length features) fs (omega (arith, f.few)) f.each) g.is (methods_are (length features) ms (omega (arith, d.few)) d.each);
+      small = omega (arith, d.small, size_is);
+      within = sized (record v { marks = d.marks; methods = d.count; params = d.params; param_names = d.param_names; nodes = d.nodes }) (v.size + sum_by method_size ms) (t.size + class_size (value_class features k)) rest size_is d.within.1;
       read = d.read;
     }
 
@@ -158,7 +189,7 @@ classes_kept : (features : List (List ℕ)) (t : Tally) (ks : List ClassTree) �
 classes_kept features t [] few small w r = record { few = omega arith; new = refl; each = refl; small = omega arith }
 classes_kept features t (k ∷ ks) few small w r =
     let c : ClassKept (length features) t (value_class features k) (in_order roles_class ks []) (in_order spell_class ks []) = class_kept features t k (in_order roles_class ks []) (in_order spell_class ks []) w r in
-    let u : Tally = record t { marks = c.marks; classes = t.classes ++ k.name ∷ []; fields = c.fields; methods = c.methods; params = c.params; sends = c.sends; assigns = c.assigns; nodes = c.nodes; size = t.size + class_size (value_class features k) } in
+    let u : Tally = record t { marks = c.marks; classes = t.classes ++ k.name ∷ []; fields = c.fields; methods = c.methods; params = c.params; sends = c.sends; assigns = c.assigns; param_names = c.param_names; nodes = c.nodes; size = t.size + class_size (value_class features k) } in
     let sum : size (map (value_class features) (k ∷ ks)) ≡ class_size (value_class features k) + size (map (value_class features) ks) = sum_by-cons class_size (value_class features k) (map (value_class features) ks) in
     let all : ClassesKept (length features) u (map (value_class features) ks) = classes_kept features u ks (omega (arith, length_push t.classes k.name, c.few)) c.small c.within c.read in
     record {

@@ -1,5 +1,5 @@
 -- The members of a class whose tokens break nothing are what a project's type keeps.
-use Rattle.std.proofs.Common.{◌≡◌, ℕ, ◌+◌, ◌≤◌, ◌<◌, true, false, ◌&&◌, List, [], ◌∷◌, ◌++◌, length, map, refl, subst, arith, None}
+use Rattle.std.proofs.Common.{◌≡◌, ℕ, ◌+◌, ◌≤◌, ◌<◌, Bool, true, ◌&&◌, List, [], ◌∷◌, ◌++◌, length, map, refl, subst, arith, None}
 use Rattle.std.specs.Prelude.{sum_by}
 use Rattle.std.specs.List.{list_all}
 use Rattle.std.proofs.lemmas.Bool.{and_parts, and_from, not_from_false, le-leb}
@@ -11,9 +11,9 @@ use Rattle.cfj_model.specs.declared.class.Field.{Field}
 use Rattle.cfj_model.specs.declared.class.Param.{Param}
 use Rattle.cfj_model.specs.declared.class.Sent.{Sent}
 use Rattle.cfj_model.specs.declared.class.Constructor.{Constructor}
-use Rattle.cfj_words.specs.Names.{is_among, is_identifier, is_short_identifier}
+use Rattle.cfj_words.specs.Names.{is_identifier, is_short_identifier}
 use Rattle.cfj_words.specs.Tokens.{Token, Id, ThisWord, Dot, Equals, Comma, CloseParen, OpenBrace, SuperWord, OpenParen, Semicolon, CloseBrace, ReturnWord}
-use Rattle.cfj_model.specs.ProductLines.{most_fields, most_in_ctor, most_methods, most_size, are_new, rise_from, is_field, is_param, is_sent, is_ctor, is_method, method_size, most_params, are_params, is_body}
+use Rattle.cfj_model.specs.ProductLines.{most_fields, most_in_ctor, most_methods, most_size, are_new, are_distinct, rise_from, is_field, is_param, is_sent, is_ctor, is_method, method_size, most_params, are_params, is_body}
 use Rattle.cfj_model.specs.Expressions.{node_count}
 use Rattle.cfj_model.specs.declared.class.Method.{Method}
 use Rattle.cfj_model.specs.Grammar.{Declared, Named, MethodTree, ClassTree, spell_field, spell_param, spell_sent, spell_assign, spell_ctor, spell_method, numbered, value_field, value_param, value_sent, value_ctor, value_method}
@@ -31,32 +31,30 @@ use Rattle.fj_parser.proofs.KeptNames.{short, NameFits, CountFits, name_fits, co
 -- what is known behind the fields of a class, of so many features
 pub record FieldsKept (n : ℕ) (t : Tally) (fields : List Field) (rest : List Role) (more : List Token) : Type 0 where
   pub marks : List (List ℕ)
-  pub names : List (List ℕ)
-  pub new : are_new t.fields (map (λ f. f.name) fields) ≡ true
-  pub few : length t.fields + length fields ≤ most_fields
+  pub count : ℕ
+  pub few : t.fields + length fields ≤ most_fields
   pub each : list_all (is_field n) fields ≡ true
   pub small : t.size + length fields ≤ most_size
-  pub within : AreWithin (record t { marks = marks; fields = names; size = t.size + length fields }) rest
+  pub within : AreWithin (record t { marks = marks; fields = count; size = t.size + length fields }) rest
   pub read : are_read more ≡ true
 
-pub fields_kept : (features : List (List ℕ)) (t : Tally) (ds : List Declared) (rest : List Role) (more : List Token) → length t.fields ≤ most_fields → t.size ≤ most_size → AreWithin t (in_order roles_field ds rest) → are_read (in_order spell_field ds more) ≡ true → FieldsKept (length features) t (map (value_field features) ds) rest more
-fields_kept features t [] rest more few small w r = record { marks = t.marks; names = t.fields; new = refl; few = omega arith; each = refl; small = omega arith; within = subst (λ n. AreWithin (record t { size = n }) rest) (omega arith) w; read = r }
+pub fields_kept : (features : List (List ℕ)) (t : Tally) (ds : List Declared) (rest : List Role) (more : List Token) → t.fields ≤ most_fields → t.size ≤ most_size → AreWithin t (in_order roles_field ds rest) → are_read (in_order spell_field ds more) ≡ true → FieldsKept (length features) t (map (value_field features) ds) rest more
+fields_kept features t [] rest more few small w r = record { marks = t.marks; count = t.fields; few = omega arith; each = refl; small = omega arith; within = subst (λ n. AreWithin (record t { size = n }) rest) (omega arith) w; read = r }
 fields_kept features t (d ∷ ds) rest more few small w r =
     let after : List Token = in_order spell_field ds more in
     let m : MarksKept t (used_name d.of ∷ (field_name d.name ∷ (other_token ∷ in_order roles_field ds rest))) (Id d.of ∷ (Id d.name ∷ (Semicolon ∷ after))) = marks_kept t d.marks (used_name d.of ∷ (field_name d.name ∷ (other_token ∷ in_order roles_field ds rest))) (Id d.of ∷ (Id d.name ∷ (Semicolon ∷ after))) w r in
-    let fits : NameFits d.name t.fields most_fields t.size = name_fits d.name t.fields most_fields t.size (Limit limit.Name) (Twice d.name) (Limit limit.Fields) (Limit limit.Size) m.within.1.0 in
+    let fits : CountFits d.name t.fields most_fields t.size = count_fits d.name t.fields most_fields t.size (Limit limit.Name) (Limit limit.Fields) (Limit limit.Size) m.within.1.0 in
     let i : (is_identifier d.of ≡ true) × ((is_identifier d.name && are_read after) ≡ true) = and_parts (is_identifier d.of) (is_identifier d.name && are_read after) m.read in
     let j : (is_identifier d.name ≡ true) × (are_read after ≡ true) = and_parts (is_identifier d.name) (are_read after) i.1 in
-    let u : Tally = record t { marks = []; fields = t.fields ++ d.name ∷ []; size = t.size + 1 } in
-    let k : FieldsKept (length features) u (map (value_field features) ds) rest more = fields_kept features u ds rest more (omega (arith, length_push t.fields d.name, fits.few)) (omega (arith, fits.small)) m.within.1.1.1 j.1 in
+    let u : Tally = record t { marks = []; fields = t.fields + 1; size = t.size + 1 } in
+    let k : FieldsKept (length features) u (map (value_field features) ds) rest more = fields_kept features u ds rest more (omega (arith, fits.few)) (omega (arith, fits.small)) m.within.1.1.1 j.1 in
     record {
       marks = k.marks;
-      names = k.names;
-      new = and_from _ _ (not_from_false _ fits.new) k.new;
-      few = omega (arith, length_push t.fields d.name, k.few);
+      count = k.count;
+      few = omega (arith, k.few);
       each = and_from _ _ (and_from _ _ (and_from _ _ (known features d.marks) (used_short d.of t i.0 m.within.0)) (short d.name j.0 fits.length_fits)) k.each;
       small = omega (arith, k.small);
-      within = subst (λ n. AreWithin (record t { marks = k.marks; fields = k.names; size = n }) rest) (omega arith) k.within;
+      within = subst (λ n. AreWithin (record t { marks = k.marks; fields = k.count; size = n }) rest) (omega arith) k.within;
       read = k.read;
     }
 
@@ -66,56 +64,95 @@ fields_kept features t (d ∷ ds) rest more few small w r =
 abbrev roles_declared : (List ℕ → Role) → Declared → List Role → List Role
 roles_declared named d rest = roles_marks d.marks (used_name d.of ∷ (named d.name ∷ rest))
 
--- A parameter's name that breaks nothing is new, and one of so many; and it counts as one.
-record NamesParams (named : List ℕ → Role) (most : ℕ) : Type 0 where
-  fits : (t : Tally) (w : List ℕ) → broken_by t (named w) ≡ None → NameFits w t.params most t.size
-  counts : (t : Tally) (w : List ℕ) → counted t (named w) ≡ record t { marks = []; params = t.params ++ w ∷ []; size = t.size + 1 }
+-- How a parameter counts, of at most so many: a constructor's in the number, a method's among the names. A name that breaks nothing
+-- has room; it counts as one; and it may stand before names that may stand behind it.
+record CountsParams (named : List ℕ → Role) (most : ℕ) : Type 0 where
+  number : ℕ → List (List ℕ) → ℕ
+  more_params : ℕ → ℕ
+  more_names : List (List ℕ) → List ℕ → List (List ℕ)
+  may_stand : List (List ℕ) → List (List ℕ) → Bool
+  fits : (t : Tally) (w : List ℕ) → broken_by t (named w) ≡ None → CountFits w (number t.params t.param_names) most t.size
+  counts : (t : Tally) (w : List ℕ) → counted t (named w) ≡ record t { marks = []; params = more_params t.params; param_names = more_names t.param_names w; size = t.size + 1 }
+  one_more : (n : ℕ) (names : List (List ℕ)) (w : List ℕ) → number (more_params n) (more_names names w) ≡ number n names + 1
+  none_stand : (names : List (List ℕ)) → may_stand names [] ≡ true
+  first_stands : (t : Tally) (w : List ℕ) (ws : List (List ℕ)) → broken_by t (named w) ≡ None → may_stand (more_names t.param_names w) ws ≡ true → may_stand t.param_names (w ∷ ws) ≡ true
 
-ctor_params : NamesParams param_name most_in_ctor
-ctor_params = record { fits = λ t w e. name_fits w t.params most_in_ctor t.size (Limit limit.Name) (Twice w) (Limit limit.Ctor) (Limit limit.Size) e; counts = λ t w. refl }
+-- those of a constructor may repeat
+abbrev ctor_params : CountsParams param_name most_in_ctor
+ctor_params =
+    record {
+      number = λ n names. n;
+      more_params = λ n. n + 1;
+      more_names = λ names w. names;
+      may_stand = λ names ws. true;
+      fits = λ t w e. count_fits w t.params most_in_ctor t.size (Limit limit.Name) (Limit limit.Ctor) (Limit limit.Size) e;
+      counts = λ t w. refl;
+      one_more = λ n names w. refl;
+      none_stand = λ names. refl;
+      first_stands = λ t w ws e h. refl;
+    }
 
-method_params : NamesParams method_param_name most_params
-method_params = record { fits = λ t w e. name_fits w t.params most_params t.size (Limit limit.Name) (Twice w) (Limit limit.Params) (Limit limit.Size) e; counts = λ t w. refl }
+new_param : (t : Tally) (w : List ℕ) → broken_by t (method_param_name w) ≡ None → NameFits w t.param_names most_params t.size
+new_param t w e = name_fits w t.param_names most_params t.size (Limit limit.Name) (Twice w) (Limit limit.Params) (Limit limit.Size) e
+
+-- those of a method are new
+abbrev method_params : CountsParams method_param_name most_params
+method_params =
+    record {
+      number = λ n names. length names;
+      more_params = λ n. n;
+      more_names = λ names w. names ++ w ∷ [];
+      may_stand = are_new;
+      fits = λ t w e. let f : NameFits w t.param_names most_params t.size = new_param t w e in record { length_fits = f.length_fits; few = f.few; small = f.small };
+      counts = λ t w. refl;
+      one_more = λ n names w. length_push names w;
+      none_stand = λ names. refl;
+      first_stands = λ t w ws e h. let f : NameFits w t.param_names most_params t.size = new_param t w e in and_from _ _ (not_from_false _ f.new) h;
+    }
 
 -- what is known behind parameters, from a slot on
-record ParamsKept (most n : ℕ) (t : Tally) (slot : ℕ) (params : List Param) (rest : List Role) (more : List Token) : Type 0 where
+record ParamsKept {named : List ℕ → Role} {most : ℕ} (by : CountsParams named most) (n : ℕ) (t : Tally) (slot : ℕ) (params : List Param) (rest : List Role) (more : List Token) : Type 0 where
   marks : List (List ℕ)
+  count : ℕ
   names : List (List ℕ)
-  new : are_new t.params (map (λ p. p.name) params) ≡ true
+  stand : by.may_stand t.param_names (map (λ p. p.name) params) ≡ true
   rises : rise_from slot (map (λ p. p.slot) params) ≡ true
-  few : length t.params + length params ≤ most
+  few : by.number t.params t.param_names + length params ≤ most
   each : list_all (is_param n) params ≡ true
   small : t.size + length params ≤ most_size
-  within : AreWithin (record t { marks = marks; params = names; size = t.size + length params }) rest
+  within : AreWithin (record t { marks = marks; params = count; param_names = names; size = t.size + length params }) rest
   read : are_read more ≡ true
 
-params_kept : (named : List ℕ → Role) (most : ℕ) → NamesParams named most → (features : List (List ℕ)) (t : Tally) (slot : ℕ) (ds : List Declared) (rest : List Role) (more : List Token) → length t.params ≤ most → t.size ≤ most_size → AreWithin t (each_behind other_token (roles_declared named) ds rest) → are_read (each_behind Comma spell_param ds more) ≡ true → ParamsKept most (length features) t slot (numbered (value_param features) slot ds) rest more
-params_kept named most names features t slot [] rest more few small w r = record { marks = t.marks; names = t.params; new = refl; rises = refl; few = omega arith; each = refl; small = omega arith; within = subst (λ n. AreWithin (record t { size = n }) rest) (omega arith) w; read = r }
-params_kept named most names features t slot (d ∷ ds) rest more few small (comma, w) r =
+params_kept : {named : List ℕ → Role} {most : ℕ} (by : CountsParams named most) (features : List (List ℕ)) (t : Tally) (slot : ℕ) (ds : List Declared) (rest : List Role) (more : List Token) → by.number t.params t.param_names ≤ most → t.size ≤ most_size → AreWithin t (each_behind other_token (roles_declared named) ds rest) → are_read (each_behind Comma spell_param ds more) ≡ true → ParamsKept by (length features) t slot (numbered (value_param features) slot ds) rest more
+params_kept by features t slot [] rest more few small w r =
+    record { marks = t.marks; count = t.params; names = t.param_names; stand = by.none_stand t.param_names; rises = refl; few = omega arith; each = refl; small = omega arith; within = subst (λ n. AreWithin (record t { size = n }) rest) (omega arith) w; read = r }
+params_kept {named = named} {most = most} by features t slot (d ∷ ds) rest more few small (comma, w) r =
     let after : List Token = each_behind Comma spell_param ds more in
     let others : List Role = each_behind other_token (roles_declared named) ds rest in
     let m : MarksKept t (used_name d.of ∷ (named d.name ∷ others)) (Id d.of ∷ (Id d.name ∷ after)) = marks_kept t d.marks (used_name d.of ∷ (named d.name ∷ others)) (Id d.of ∷ (Id d.name ∷ after)) w r in
-    let fits : NameFits d.name t.params most t.size = names.fits (record t { marks = [] }) d.name m.within.1.0 in
+    let fits : CountFits d.name (by.number t.params t.param_names) most t.size = by.fits (record t { marks = [] }) d.name m.within.1.0 in
     let i : (is_identifier d.of ≡ true) × ((is_identifier d.name && are_read after) ≡ true) = and_parts (is_identifier d.of) (is_identifier d.name && are_read after) m.read in
     let j : (is_identifier d.name ≡ true) × (are_read after ≡ true) = and_parts (is_identifier d.name) (are_read after) i.1 in
-    let u : Tally = record t { marks = []; params = t.params ++ d.name ∷ []; size = t.size + 1 } in
-    let next : AreWithin u others = subst (λ v. AreWithin v others) (names.counts (record t { marks = [] }) d.name) m.within.1.1 in
-    let k : ParamsKept most (length features) u (slot + 1) (numbered (value_param features) (slot + 1) ds) rest more = params_kept named most names features u (slot + 1) ds rest more (omega (arith, length_push t.params d.name, fits.few)) (omega (arith, fits.small)) next j.1 in
+    let u : Tally = record t { marks = []; params = by.more_params t.params; param_names = by.more_names t.param_names d.name; size = t.size + 1 } in
+    let next : AreWithin u others = subst (λ v. AreWithin v others) (by.counts (record t { marks = [] }) d.name) m.within.1.1 in
+    let one : by.number u.params u.param_names ≡ by.number t.params t.param_names + 1 = by.one_more t.params t.param_names d.name in
+    let k : ParamsKept by (length features) u (slot + 1) (numbered (value_param features) (slot + 1) ds) rest more = params_kept by features u (slot + 1) ds rest more (omega (arith, one, fits.few)) (omega (arith, fits.small)) next j.1 in
     record {
       marks = k.marks;
+      count = k.count;
       names = k.names;
-      new = and_from _ _ (not_from_false _ fits.new) k.new;
+      stand = by.first_stands (record t { marks = [] }) d.name (map (λ p. p.name) (numbered (value_param features) (slot + 1) ds)) m.within.1.0 k.stand;
       rises = and_from _ _ (le-leb slot slot (omega arith)) k.rises;
-      few = omega (arith, length_push t.params d.name, k.few);
+      few = omega (arith, one, k.few);
       each = and_from _ _ (and_from _ _ (and_from _ _ (known features d.marks) (used_short d.of t i.0 m.within.0)) (short d.name j.0 fits.length_fits)) k.each;
       small = omega (arith, k.small);
-      within = subst (λ n. AreWithin (record t { marks = k.marks; params = k.names; size = n }) rest) (omega arith) k.within;
+      within = subst (λ n. AreWithin (record t { marks = k.marks; params = k.count; param_names = k.names; size = n }) rest) (omega arith) k.within;
       read = k.read;
     }
 
 -- They are the parameters of a constructor or of a method.
-are_kept : {most n : ℕ} {t : Tally} {params : List Param} {rest : List Role} {more : List Token} → t.params ≡ [] → ParamsKept most n t 0 params rest more → are_params most n params ≡ true
-are_kept {most = most} {params = params} none p = and_from _ _ (and_from _ _ (and_from _ _ (le-leb (length params) most (omega (arith, p.few))) (subst (λ names. are_new names (map (λ q. q.name) params) ≡ true) none p.new)) p.rises) p.each
+are_kept : {named : List ℕ → Role} {most : ℕ} {by : CountsParams named most} {n : ℕ} {t : Tally} {params : List Param} {rest : List Role} {more : List Token} → ParamsKept by n t 0 params rest more → are_params most n params ≡ true
+are_kept {most = most} {params = params} p = and_from _ _ (and_from _ _ (le-leb (length params) most (omega (arith, p.few))) p.rises) p.each
 
 -- ---- constructors
 
@@ -195,38 +232,40 @@ abbrev roles_behind_params : ClassTree → List Role → List Role
 roles_behind_params k rest = other_token ∷ (other_token ∷ (other_token ∷ (other_token ∷ separated other_token roles_sent k.sends (roles_behind_sends k rest))))
 
 -- before a constructor
-abbrev pub before_ctor : Tally → List (List ℕ) → List (List ℕ) → ℕ → Tally
-before_ctor t marks fields size = record t { marks = marks; fields = fields; params = []; sends = 0; assigns = 0; size = size }
+abbrev pub before_ctor : Tally → List (List ℕ) → ℕ → ℕ → Tally
+before_ctor t marks fields size = record t { marks = marks; fields = fields; params = 0; sends = 0; assigns = 0; size = size }
 
 -- how much a constructor adds to the size
 abbrev pub ctor_size : Constructor → ℕ
 ctor_size c = length c.params + (length c.sends + length c.assigns)
 
 -- what is known behind a constructor
-pub record CtorKept (n : ℕ) (t : Tally) (fields : List (List ℕ)) (size : ℕ) (c : Constructor) (rest : List Role) (more : List Token) : Type 0 where
+pub record CtorKept (n : ℕ) (t : Tally) (fields size : ℕ) (c : Constructor) (rest : List Role) (more : List Token) : Type 0 where
   pub marks : List (List ℕ)
-  pub params : List (List ℕ)
+  pub params : ℕ
+  pub param_names : List (List ℕ)
   pub sends : ℕ
   pub assigns : ℕ
   pub is : is_ctor n c ≡ true
   pub small : size + ctor_size c ≤ most_size
-  pub within : AreWithin (record t { marks = marks; fields = fields; params = params; sends = sends; assigns = assigns; size = size + ctor_size c }) rest
+  pub within : AreWithin (record t { marks = marks; fields = fields; params = params; sends = sends; assigns = assigns; param_names = param_names; size = size + ctor_size c }) rest
   pub read : are_read more ≡ true
 
-pub ctor_kept : (features : List (List ℕ)) (before : Tally) (marks fields : List (List ℕ)) (n : ℕ) (k : ClassTree) (rest : List Role) (more : List Token) → n ≤ most_size → AreWithin (before_ctor before marks fields n) (roles_ctor k rest) → are_read (spell_ctor k more) ≡ true → CtorKept (length features) before fields n (value_ctor features k) rest more
+pub ctor_kept : (features : List (List ℕ)) (before : Tally) (marks : List (List ℕ)) (fields n : ℕ) (k : ClassTree) (rest : List Role) (more : List Token) → n ≤ most_size → AreWithin (before_ctor before marks fields n) (roles_ctor k rest) → are_read (spell_ctor k more) ≡ true → CtorKept (length features) before fields n (value_ctor features k) rest more
 ctor_kept features before marks fields n k rest more small (used, (opened, w)) r =
     let t : Tally = before_ctor before [] fields n in
-    let p : ParamsKept most_in_ctor (length features) t 0 (numbered (value_param features) 0 k.params) (roles_behind_params k rest) (tokens_behind_params k more) = params_kept param_name most_in_ctor ctor_params features t 0 k.params (roles_behind_params k rest) (tokens_behind_params k more) (omega arith) small (separated_within t (roles_declared param_name) k.params (roles_behind_params k rest) w) (separated_read spell_param k.params (tokens_behind_params k more) (and_parts (is_identifier k.name) _ r).1) in
-    let u : Tally = record t { marks = p.marks; params = p.names; size = n + length (numbered (value_param features) 0 k.params) } in
+    let p : ParamsKept ctor_params (length features) t 0 (numbered (value_param features) 0 k.params) (roles_behind_params k rest) (tokens_behind_params k more) = params_kept ctor_params features t 0 k.params (roles_behind_params k rest) (tokens_behind_params k more) (omega arith) small (separated_within t (roles_declared param_name) k.params (roles_behind_params k rest) w) (separated_read spell_param k.params (tokens_behind_params k more) (and_parts (is_identifier k.name) _ r).1) in
+    let u : Tally = record t { marks = p.marks; params = p.count; param_names = p.names; size = n + length (numbered (value_param features) 0 k.params) } in
     let s : SendsKept (length features) u 0 (numbered (value_sent features) 0 k.sends) (roles_behind_sends k rest) (tokens_behind_sends k more) = sends_kept features u 0 k.sends (roles_behind_sends k rest) (tokens_behind_sends k more) (omega arith) p.small (separated_within u roles_sent k.sends (roles_behind_sends k rest) p.within.1.1.1.1) (separated_read spell_sent k.sends (tokens_behind_sends k more) p.read) in
     let v : Tally = record u { marks = s.marks; sends = s.count; size = u.size + length (numbered (value_sent features) 0 k.sends) } in
     let a : AssignsKept (length features) v 0 (numbered (value_sent features) 0 k.assigns) (other_token ∷ rest) (CloseBrace ∷ more) = assigns_kept features v 0 k.assigns (other_token ∷ rest) (CloseBrace ∷ more) (omega arith) s.small s.within.1.1 s.read in
     record {
       marks = a.marks;
-      params = p.names;
+      params = p.count;
+      param_names = p.names;
       sends = s.count;
       assigns = a.count;
-      is = and_from _ _ (and_from _ _ (are_kept refl p) (and_from _ _ (and_from _ _ (le-leb (length (numbered (value_sent features) 0 k.sends)) most_in_ctor (omega (arith, s.few))) s.rises) s.each)) (and_from _ _ (and_from _ _ (le-leb (length (numbered (value_sent features) 0 k.assigns)) most_in_ctor (omega (arith, a.few))) a.rises) a.each);
+      is = and_from _ _ (and_from _ _ (are_kept p) (and_from _ _ (and_from _ _ (le-leb (length (numbered (value_sent features) 0 k.sends)) most_in_ctor (omega (arith, s.few))) s.rises) s.each)) (and_from _ _ (and_from _ _ (le-leb (length (numbered (value_sent features) 0 k.assigns)) most_in_ctor (omega (arith, a.few))) a.rises) a.each);
       small = omega (arith, a.small);
       within = sized (record v { marks = a.marks; assigns = a.count }) (v.size + length (numbered (value_sent features) 0 k.assigns)) (n + ctor_size (value_ctor features k)) rest (omega arith) a.within.1;
       read = a.read;
@@ -250,39 +289,39 @@ roles_behind_method_name m rest = other_token ∷ separated other_token roles_me
 -- what is known behind a method
 record MethodKept (n : ℕ) (t : Tally) (m : Method) (rest : List Role) (more : List Token) : Type 0 where
   marks : List (List ℕ)
-  params : List (List ℕ)
+  params : ℕ
+  param_names : List (List ℕ)
   nodes : ℕ
-  new : is_among t.methods m.name ≡ false
-  few : length t.methods < most_methods
+  few : t.methods < most_methods
   is : is_method n m ≡ true
   small : t.size + method_size m ≤ most_size
-  within : AreWithin (record t { marks = marks; methods = t.methods ++ m.name ∷ []; params = params; nodes = nodes; size = t.size + method_size m }) rest
+  within : AreWithin (record t { marks = marks; methods = t.methods + 1; params = params; param_names = param_names; nodes = nodes; size = t.size + method_size m }) rest
   read : are_read more ≡ true
 
-method_is : (features : List (List ℕ)) (m : MethodTree) → is_short_identifier m.result ≡ true → is_short_identifier m.name ≡ true → are_params most_params (length features) (numbered (value_param features) 0 m.params) ≡ true → is_body (length features) (value_expr features 0 m.body).0 ≡ true → is_method (length features) (value_method features m) ≡ true
+method_is : (features : List (List ℕ)) (m : MethodTree) → is_short_identifier m.result ≡ true → is_short_identifier m.name ≡ true → are_params most_params (length features) (numbered (value_param features) 0 m.params) ≡ true → are_distinct (map (λ p. p.name) (numbered (value_param features) 0 m.params)) ≡ true → is_body (length features) (value_expr features 0 m.body).0 ≡ true → is_method (length features) (value_method features m) ≡ true
 unfolding is_method
-method_is features m a b c d = and_from _ _ (and_from _ _ (and_from _ _ (and_from _ _ (known features m.marks) a) b) c) d
+method_is features m a b c d e = and_from _ _ (and_from _ _ (and_from _ _ (and_from _ _ (and_from _ _ (known features m.marks) a) b) c) d) e
 
 method_kept : (features : List (List ℕ)) (t : Tally) (m : MethodTree) (rest : List Role) (more : List Token) → AreWithin t (roles_method m rest) → are_read (spell_method m more) ≡ true → MethodKept (length features) t (value_method features m) rest more
 method_kept features t m rest more w r =
     let after : List Token = separated Comma spell_param m.params (tokens_behind_head m more) in
     let a : MarksKept t (used_name m.result ∷ (method_name m.name ∷ roles_behind_method_name m rest)) (Id m.result ∷ (Id m.name ∷ tokens_behind_method_name m more)) = marks_kept t m.marks (used_name m.result ∷ (method_name m.name ∷ roles_behind_method_name m rest)) (Id m.result ∷ (Id m.name ∷ tokens_behind_method_name m more)) w r in
-    let fits : NameFits m.name t.methods most_methods t.size = name_fits m.name t.methods most_methods t.size (Limit limit.Name) (Twice m.name) (Limit limit.Methods) (Limit limit.Size) a.within.1.0 in
+    let fits : CountFits m.name t.methods most_methods t.size = count_fits m.name t.methods most_methods t.size (Limit limit.Name) (Limit limit.Methods) (Limit limit.Size) a.within.1.0 in
     let i : (is_identifier m.result ≡ true) × ((is_identifier m.name && are_read after) ≡ true) = and_parts (is_identifier m.result) (is_identifier m.name && are_read after) a.read in
     let j : (is_identifier m.name ≡ true) × (are_read after ≡ true) = and_parts (is_identifier m.name) (are_read after) i.1 in
-    let u : Tally = record t { marks = []; methods = t.methods ++ m.name ∷ []; params = []; nodes = 0; size = t.size + 1 } in
+    let u : Tally = record t { marks = []; methods = t.methods + 1; param_names = []; nodes = 0; size = t.size + 1 } in
     let ps : List Param = numbered (value_param features) 0 m.params in
-    let p : ParamsKept most_params (length features) u 0 ps (roles_behind_head m rest) (tokens_behind_head m more) = params_kept method_param_name most_params method_params features u 0 m.params (roles_behind_head m rest) (tokens_behind_head m more) (omega arith) (omega (arith, fits.small)) (separated_within u (roles_declared method_param_name) m.params (roles_behind_head m rest) a.within.1.1.1) (separated_read spell_param m.params (tokens_behind_head m more) j.1) in
-    let v : Tally = record u { marks = p.marks; params = p.names; size = t.size + 1 + length ps } in
+    let p : ParamsKept method_params (length features) u 0 ps (roles_behind_head m rest) (tokens_behind_head m more) = params_kept method_params features u 0 m.params (roles_behind_head m rest) (tokens_behind_head m more) (omega arith) (omega (arith, fits.small)) (separated_within u (roles_declared method_param_name) m.params (roles_behind_head m rest) a.within.1.1.1) (separated_read spell_param m.params (tokens_behind_head m more) j.1) in
+    let v : Tally = record u { marks = p.marks; params = p.count; param_names = p.names; size = t.size + 1 + length ps } in
     let b : IsKept features v m.body (other_token ∷ (other_token ∷ rest)) (Semicolon ∷ (CloseBrace ∷ more)) = body_kept features v m.body (other_token ∷ (other_token ∷ rest)) (Semicolon ∷ (CloseBrace ∷ more)) refl p.small p.within.1.1.1 p.read in
     let nodes : ℕ = node_count (value_expr features 0 m.body).0 in
     record {
       marks = b.marks;
-      params = p.names;
+      params = p.count;
+      param_names = p.names;
       nodes = nodes;
-      new = fits.new;
       few = fits.few;
-      is = method_is features m (used_short m.result t i.0 a.within.0) (short m.name j.0 fits.length_fits) (are_kept refl p) b.is;
+      is = method_is features m (used_short m.result t i.0 a.within.0) (short m.name j.0 fits.length_fits) (are_kept p) p.stand b.is;
       small = omega (arith, b.small);
       within = sized (record v { marks = b.marks; nodes = nodes }) (v.size + nodes) (t.size + method_size (value_method features m)) rest (omega arith) b.within.1.1;
       read = b.read;
@@ -291,34 +330,34 @@ method_kept features t m rest more w r =
 -- what is known behind the methods of a class
 pub record MethodsKept (n : ℕ) (t : Tally) (methods : List Method) (rest : List Role) (more : List Token) : Type 0 where
   pub marks : List (List ℕ)
-  pub names : List (List ℕ)
-  pub params : List (List ℕ)
+  pub count : ℕ
+  pub params : ℕ
+  pub param_names : List (List ℕ)
   pub nodes : ℕ
-  pub few : length t.methods + length methods ≤ most_methods
-  pub new : are_new t.methods (map (λ m. m.name) methods) ≡ true
+  pub few : t.methods + length methods ≤ most_methods
   pub each : list_all (is_method n) methods ≡ true
   pub small : t.size + sum_by method_size methods ≤ most_size
-  pub within : AreWithin (record t { marks = marks; methods = names; params = params; nodes = nodes; size = t.size + sum_by method_size methods }) rest
+  pub within : AreWithin (record t { marks = marks; methods = count; params = params; param_names = param_names; nodes = nodes; size = t.size + sum_by method_size methods }) rest
   pub read : are_read more ≡ true
 
-pub methods_kept : (features : List (List ℕ)) (t : Tally) (ms : List MethodTree) (rest : List Role) (more : List Token) → length t.methods ≤ most_methods → t.size ≤ most_size → AreWithin t (in_order roles_method ms rest) → are_read (in_order spell_method ms more) ≡ true → MethodsKept (length features) t (map (value_method features) ms) rest more
+pub methods_kept : (features : List (List ℕ)) (t : Tally) (ms : List MethodTree) (rest : List Role) (more : List Token) → t.methods ≤ most_methods → t.size ≤ most_size → AreWithin t (in_order roles_method ms rest) → are_read (in_order spell_method ms more) ≡ true → MethodsKept (length features) t (map (value_method features) ms) rest more
 methods_kept features t [] rest more few small w r =
-    record { marks = t.marks; names = t.methods; params = t.params; nodes = t.nodes; few = omega arith; new = refl; each = refl; small = omega arith; within = subst (λ n. AreWithin (record t { size = n }) rest) (omega arith) w; read = r }
+    record { marks = t.marks; count = t.methods; params = t.params; param_names = t.param_names; nodes = t.nodes; few = omega arith; each = refl; small = omega arith; within = subst (λ n. AreWithin (record t { size = n }) rest) (omega arith) w; read = r }
 methods_kept features t (m ∷ ms) rest more few small w r =
     let x : Method = value_method features m in
     let k : MethodKept (length features) t x (in_order roles_method ms rest) (in_order spell_method ms more) = method_kept features t m (in_order roles_method ms rest) (in_order spell_method ms more) w r in
-    let u : Tally = record t { marks = k.marks; methods = t.methods ++ m.name ∷ []; params = k.params; nodes = k.nodes; size = t.size + method_size x } in
-    let all : MethodsKept (length features) u (map (value_method features) ms) rest more = methods_kept features u ms rest more (omega (arith, length_push t.methods m.name, k.few)) k.small k.within k.read in
+    let u : Tally = record t { marks = k.marks; methods = t.methods + 1; params = k.params; param_names = k.param_names; nodes = k.nodes; size = t.size + method_size x } in
+    let all : MethodsKept (length features) u (map (value_method features) ms) rest more = methods_kept features u ms rest more (omega (arith, k.few)) k.small k.within k.read in
     let sum : sum_by method_size (map (value_method features) (m ∷ ms)) ≡ method_size x + sum_by method_size (map (value_method features) ms) = sum_by-cons method_size x (map (value_method features) ms) in
     record {
       marks = all.marks;
-      names = all.names;
+      count = all.count;
       params = all.params;
+      param_names = all.param_names;
       nodes = all.nodes;
-      few = omega (arith, length_push t.methods m.name, all.few);
-      new = and_from _ _ (not_from_false _ k.new) all.new;
+      few = omega (arith, all.few);
       each = and_from _ _ k.is all.each;
       small = omega (arith, all.small, sum);
-      within = sized (record t { marks = all.marks; methods = all.names; params = all.params; nodes = all.nodes }) (u.size + sum_by method_size (map (value_method features) ms)) (t.size + sum_by method_size (map (value_method features) (m ∷ ms))) rest (omega (arith, sum)) all.within;
+      within = sized (record t { marks = all.marks; methods = all.count; params = all.params; param_names = all.param_names; nodes = all.nodes }) (u.size + sum_by method_size (map (value_method features) ms)) (t.size + sum_by method_size (map (value_method features) (m ∷ ms))) rest (omega (arith, sum)) all.within;
       read = all.read;
     }

@@ -1,7 +1,7 @@
 -- No public contract cites this: it serves the proofs.
 -- What is in hand against what was counted.
 use Rattle.std.specs.Prelude.{◌≡◌, ℕ, ◌+◌, ◌≤◌, length}
-use Rattle.cfj_model.specs.ProductLines.{most_features, most_in_ctor, most_nodes}
+use Rattle.cfj_model.specs.ProductLines.{most_features, most_in_ctor, most_nodes, most_params}
 use Rattle.cfj_model.specs.Roles.{Tally}
 use Rattle.expression_reader.specs.Reading.{owed}
 use Rattle.fj_machine.specs.Machine.{State}
@@ -65,16 +65,18 @@ IsEmptyAt before_method n = (n.params ≡ 0) × (n.slots ≡ 0)
 IsEmptyAt before_body n = n.slots ≡ 0
 IsEmptyAt in_body n = Unit {0}
 
--- At a place there is no more in hand than what was counted, which is within the limits.
+-- At a place there is no more in hand than what was counted, which is within the limits. The parameters in hand are a constructor's
+-- or a method's, and these are counted each by itself.
 pub record IsCounted (place : Place) (n : InHand) (t : Tally) : Type 0 where
   pub empty : IsEmptyAt place n
   pub features : n.features ≤ length t.features
-  pub params : n.params ≤ length t.params
+  pub params : n.params ≤ t.params + length t.param_names
   pub sends : n.sends ≤ t.sends
   pub assigns : n.assigns ≤ t.assigns
   pub slots : n.slots ≤ t.nodes
   pub few_features : length t.features ≤ most_features
-  pub few_params : length t.params ≤ most_in_ctor
+  pub few_params : t.params ≤ most_in_ctor
+  pub few_param_names : length t.param_names ≤ most_params
   pub few_sends : t.sends ≤ most_in_ctor
   pub few_assigns : t.assigns ≤ most_in_ctor
   pub few_nodes : t.nodes ≤ most_nodes

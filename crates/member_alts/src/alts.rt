@@ -57,7 +57,7 @@ fn write_alts<M: Member>(members: &mut [M], alts: &[u16])
     requires { length alts.now ≡ length members.old }
     ensures { members.new ≡ with_alts M.with_alt members.old alts.now }
 {
-    for (member, alt) in members.iter_mut().zip(alts) {
-        member.set_alt(*alt);
+    for (place, member) in members.iter_mut().enumerate() {
+        member.set_alt(alts[place]);
     }
 }

@@ -1,6 +1,6 @@
 //! How often each name was counted.
 
-ghost use Rattle.std.specs.Prelude.{◌≡◌, ◌+◌, ◌<◌, ◌^◌, IfOk, List, ℕ, if◌then◌else◌};
+ghost use Rattle.std.specs.Prelude.{◌≡◌, ◌+◌, IfOk, OnOk, List, ℕ, if◌then◌else◌};
 ghost use Rattle.std.specs.Str.{bytes_eq};
 ghost use Rattle.member_alts.specs.Counts.{count_in};
 
@@ -11,10 +11,13 @@ use std::alloc::AllocError;
 ///
 /// # Errors
 ///
-/// There is no memory for it, or it was counted more often than a `u16` says.
-pub fn count<'a>(counts: &mut IndexMap<&'a str, u32>, name: &'a str) -> Result<u16, AllocError>
+/// There is no memory for it, or it was counted 65,536 times before.
+pub(crate) fn count<'a>(
+    counts: &mut IndexMap<&'a str, u32>,
+    name: &'a str,
+) -> Result<u16, AllocError>
     ensures before { IfOk result (λ before. before ≡ count_in counts.old name.now) }
-    ensures counted { IfOk result (λ before. (w : List ℕ) → count_in counts.new w ≡ count_in counts.old w + (if bytes_eq name.now w then 1 else 0)) }
+    ensures counted { OnOk result ((w : List ℕ) → count_in counts.new w ≡ count_in counts.old w + (if bytes_eq name.now w then 1 else 0)) }
 {
     let before = counts.get(name).copied().unwrap_or(0);
     let alt = u16::try_from(before).map_err(|_| AllocError)?;

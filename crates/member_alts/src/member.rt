@@ -6,7 +6,7 @@ ghost use Rattle.cfj_model.specs.Members.{field_name_of, method_name_of};
 use cfj_model::{Field, Method};
 
 /// A member of a class: it has a name, and an alt.
-pub trait Member {
+pub(crate) trait Member {
     ghost name_of: { Self → List ℕ };
 
     ghost with_alt: { Self → ℕ → Self };

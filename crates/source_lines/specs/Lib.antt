@@ -1,3 +1,4 @@
 pub mod Buffers
+pub mod Cuts
 pub mod LineReads
 pub mod Readers

@@ -9,10 +9,12 @@
 //! as a [record](../specs/Readers.antt) of what is left of the input, buffered or not, and of the line that was read last.
 #![tactic(auto)]
 
+mod cut_source;
 mod first_line;
 mod line_reader;
 mod reads;
 mod windows;
 
+pub use cut_source::CutSource;
 pub use line_reader::{Lines, NoLines};
 pub use reads::Read;

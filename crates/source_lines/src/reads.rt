@@ -14,7 +14,7 @@ pub enum Read {
 }
 
 /// What the look for the first line of a window came to.
-#[derive(Clone, Copy, Debug, PartialEq, Eq)]
+#[derive(Clone, Copy)]
 pub enum Found {
     /// The length of the line, and how many bytes are passed with it.
     Line(usize, usize),

@@ -76,11 +76,12 @@ impl Window {
         ensures size { self.new.size ≡ self.old.size }
         ensures room { length self.old.bytes < self.old.size → 0 < self.new.room }
     {
-        if self.to == self.buffer.len() {
-            self.buffer.copy_within(self.from..self.to, 0);
-            self.to -= self.from;
-            self.from = 0;
+        if self.to < self.buffer.len() {
+            return;
         }
+        self.buffer.copy_within(self.from..self.to, 0);
+        self.to -= self.from;
+        self.from = 0;
     }
 
     /// Takes one piece of a source behind the bytes.

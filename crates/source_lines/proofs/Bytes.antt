@@ -1,8 +1,7 @@
 -- Where the bytes of a window lie in its buffer.
-use Rattle.std.proofs.Common.{◌≡◌, ℕ, ◌+◌, ◌-◌, ◌≤◌, List, [], ◌++◌, length, take, drop, refl, sym, ap, ◌∙◌, arith}
-use Rattle.std.proofs.Math.Seq.{paste, take-append-add}
-use Rattle.std.proofs.lemmas.List.{drop-take, drop-drop, drop-append-le, length-take, length-drop}
-use Rattle.std.proofs.lemmas.List.Edits.{take-paste}
+use Rattle.std.proofs.Common.{◌≡◌, ℕ, ◌+◌, ◌-◌, ◌≤◌, List, ◌++◌, length, take, drop, sym, ap, ap₂, ◌∙◌, arith, append_assoc}
+use Rattle.std.proofs.Math.Seq.{take-append-add}
+use Rattle.std.proofs.lemmas.List.{drop-take, drop-drop, drop-append-le, take-take, take-append-le, length-take, length-drop}
 
 -- the bytes between two places
 abbrev pub window : ℕ → ℕ → List ℕ → List ℕ
@@ -18,20 +17,24 @@ window-passed from to count items h =
     let size : to - from ≡ count + left = omega arith in
     sym (ap (λ k. drop count (take k (drop from items))) size ∙ drop-take count left (drop from items) ∙ ap (take left) (drop-drop count from items))
 
--- The bytes were moved to the front.
-pub window-moved : (from to : ℕ) (items : List ℕ) → from ≤ to → to ≤ length items → window 0 (to - from) (paste items 0 (drop from items) (to - from)) ≡ window from to items
-window-moved from to items h k =
-    let size = to - from in
-    let same : size - 0 ≡ 0 + size = omega arith in
-    ap (λ n. take n (paste items 0 (drop from items) size)) same ∙ take-paste items 0 (drop from items) size (omega arith) (omega (arith, length-drop from items))
-
--- More bytes came behind them.
-pub window-filled : (from to count : ℕ) (items into : List ℕ) → from ≤ to → to ≤ length items → window from (to + count) (take to items ++ into) ≡ window from to items ++ take count into
-window-filled from to count items into h k =
+-- More bytes came behind them: what a buffer holds once a slice of it, from the end of the window on, was written.
+pub window-filled : (from to count left len : ℕ) (items lent into post tail : List ℕ) → lent ≡ items → from ≤ to → to ≤ length items → left ≡ to + count - from → to + count ≤ len → count ≤ length into
+    → take left (drop from (take len (take to lent ++ (into ++ post) ++ tail))) ≡ window from to items ++ take count into
+window-filled from to count left len items lent into post tail same h k l room some =
     let size = to - from in
     let bytes = window from to items in
-    let whole : to ≡ from + size = omega arith in
-    let front : drop from (take to items) ≡ bytes = ap (λ n. drop from (take n items)) whole ∙ drop-take from size items in
-    let more : to + count - from ≡ length bytes + count = omega (arith, length-window from to items h k) in
-    ap (take (to + count - from)) (drop-append-le from (take to items) into (omega (arith, length-take to items)) ∙ ap (λ b. b ++ into) front)
-    ∙ ap (λ n. take n (bytes ++ into)) more ∙ take-append-add bytes into count
+    let behind = into ++ (post ++ tail) in
+    let whole : take to lent ++ (into ++ post) ++ tail ≡ take to items ++ behind =
+        append_assoc (take to lent) (into ++ post) tail ∙ ap₂ (λ (a b : List ℕ). take to a ++ b) same (append_assoc into post tail) in
+    let cut : len ≡ from + (len - from) = omega arith in
+    let to_is : to ≡ from + size = omega arith in
+    let front : drop from (take to items) ≡ bytes = ap (λ n. drop from (take n items)) to_is ∙ drop-take from size items in
+    let more : left ≡ length bytes + count = omega (arith, length-window from to items h k) in
+    ap (λ n. take left (drop from (take n (take to lent ++ (into ++ post) ++ tail)))) cut
+    ∙ ap (take left) (drop-take from (len - from) (take to lent ++ (into ++ post) ++ tail))
+    ∙ take-take left (len - from) (drop from (take to lent ++ (into ++ post) ++ tail)) (omega arith)
+    ∙ ap (λ b. take left (drop from b)) whole
+    ∙ ap (take left) (drop-append-le from (take to items) behind (omega (arith, length-take to items)) ∙ ap (λ b. b ++ behind) front)
+    ∙ ap (λ n. take n (bytes ++ behind)) more
+    ∙ take-append-add bytes behind count
+    ∙ ap (λ b. bytes ++ b) (take-append-le count into (post ++ tail) some)

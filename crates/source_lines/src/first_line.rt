@@ -20,14 +20,14 @@ pub fn first_line<S: Source>(window: &mut Window, source: &mut S, limit: usize) 
 {
     let mut seen = 0;
     'pieces: loop {
+        let len = window.bytes().len();
         if let Some(end) = window.newline(seen) {
             if limit < end {
                 return Found::TooLong;
             }
             return Found::Line(end, end + 1);
         }
-        seen = window.bytes().len();
-        if limit < seen {
+        if limit < len {
             return Found::TooLong;
         }
         window.make_room();
@@ -36,10 +36,11 @@ pub fn first_line<S: Source>(window: &mut Window, source: &mut S, limit: usize) 
             Err(_) => return Found::ReadFault,
         };
         if count == 0 {
-            if seen == 0 {
+            if len == 0 {
                 return Found::End;
             }
-            return Found::Line(seen, seen);
+            return Found::Line(len, len);
         }
+        seen = len;
     }
 }

@@ -91,8 +91,12 @@ impl Window {
         ensures size { self.new.size ≡ self.old.size }
         ensures cause { HasCause (S.faults source.old) (S.faults source.new) result }
     {
-        let count = source.take(&mut self.buffer[self.to..])?;
-        self.to += count;
-        Ok(count)
+        match source.take(&mut self.buffer[self.to..]) {
+            Ok(count) => {
+                self.to += count;
+                Ok(count)
+            }
+            Err(failed) => Err(failed),
+        }
     }
 }

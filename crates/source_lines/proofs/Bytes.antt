@@ -25,7 +25,7 @@ window-filled from to count left len items lent into post tail same h k l room s
     let bytes = window from to items in
     let behind = into ++ (post ++ tail) in
     let whole : take to lent ++ (into ++ post) ++ tail ≡ take to items ++ behind =
-        append_assoc (take to lent) (into ++ post) tail ∙ ap₂ (λ (a b : List ℕ). take to a ++ b) same (append_assoc into post tail) in
+    append_assoc (take to lent) (into ++ post) tail ∙ ap₂ (λ (a b : List ℕ). take to a ++ b) same (append_assoc into post tail) in
     let cut : len ≡ from + (len - from) = omega arith in
     let to_is : to ≡ from + size = omega arith in
     let front : drop from (take to items) ≡ bytes = ap (λ n. drop from (take n items)) to_is ∙ drop-take from size items in

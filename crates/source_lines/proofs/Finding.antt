@@ -34,7 +34,7 @@ found_newline bytes hay seen at e s none first is =
     let size = ap length e in
     let within : end < length bytes = omega (arith, first.high, length-drop seen bytes) in
     let front : has_newline (take at (drop seen bytes)) ≡ false =
-        ap (λ h. has_newline (take at h)) (sym e) ∙ none_before hay at (λ i below within p. first.before i (omega arith) below p) in
+    ap (λ h. has_newline (take at h)) (sym e) ∙ none_before hay at (λ i below within p. first.before i (omega arith) below p) in
     let byte : get_or bytes end 0 ≡ 10 = sym (ap (λ h. get_or h at 0) e ∙ get_or-drop seen bytes at 0) ∙ eqb-true _ _ is in
     let next : suc end ≡ end + 1 = omega arith in (
       within,
@@ -45,7 +45,7 @@ found_newline bytes hay seen at e s none first is =
 pub found_none : (bytes hay : List ℕ) (seen : ℕ) → hay ≡ drop seen bytes → has_newline (take seen bytes) ≡ false → Nowhere (Passes (is_byte 10) hay) 0 (length hay) → IsNewline bytes None
 found_none bytes hay seen e none nowhere =
     let rest : has_newline (drop seen bytes) ≡ false =
-        ap has_newline (sym e ∙ sym (take_all (length hay) hay (omega arith))) ∙ none_before hay (length hay) (λ i below within p. nowhere i (omega arith) below p) in
+    ap has_newline (sym e ∙ sym (take_all (length hay) hay (omega arith))) ∙ none_before hay (length hay) (λ i below within p. nowhere i (omega arith) below p) in
     ap has_newline (sym (take-append-drop seen bytes)) ∙ both (take seen bytes) (drop seen bytes) none rest
 
 -- What stood before more bytes is still their front.

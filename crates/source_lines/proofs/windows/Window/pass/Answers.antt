@@ -1,6 +1,6 @@
-use Rattle.std.proofs.Common.{◌≡◌, ◌+◌, ◌-◌, ◌≤◌, List, ℕ, length, drop, vec_len, ap, ◌∙◌, arith}
+use Rattle.std.proofs.Common.{◌+◌, ◌-◌, ◌≤◌, List, ℕ, length, drop, vec_len, ap, ◌∙◌, arith}
 use Rattle.source_lines.specs.Buffers.{Buffered}
-use Rattle.source_lines.proofs.Bytes.{window, length-window, window-passed}
+use Rattle.source_lines.proofs.Bytes.{length-window, window-passed}
 use Rattle.source_lines.proofs.windows.Window.pass.Goals as goal
 
 pub returns : goal.returns

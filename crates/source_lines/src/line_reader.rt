@@ -21,7 +21,7 @@ pub struct NoLines<S> {
 
 /// A source of bytes, read line by line.
 ///
-/// It is given back by [`Lines::back`], and is dropped only where its source may be.
+/// Its source is given back by [`Lines::back`]; it is not dropped.
 pub struct Lines<S: Source> {
     source: S,
     window: Window,

@@ -1,7 +1,7 @@
 //! Sources that are cut into pieces, read line by line.
 
 use cide_io::Source;
-use source_lines::{CutSource, Lines, Read};
+use source_lines::{CutSource, Lines, NoLines, Read};
 use std::alloc::{AllocError, Global};
 use std::test::Fail;
 
@@ -41,7 +41,7 @@ fn told(
             lines.back().close();
             done?;
         }
-        Err(none) => none.source.close(),
+        Err(NoLines { source }) => source.close(),
     }
     Ok(told)
 }

@@ -17,14 +17,16 @@ pub record Buffered : Type 0 where
 -- A piece of a source came behind the bytes, or the source failed and gave none.
 abbrev pub IsFilled : List ℕ → List ℕ → Known → Known → Result ℕ Failed → Type 0
 IsFilled old new before after (Ok n) =
-    (more : List ℕ) × (new ≡ old ++ more) × (length more ≡ n) × (before ≡ preceded more after) × (n ≡ 0 → IsAtEnd before)
+    (more : List ℕ) × (new ≡ old ++ more) × (length more ≡ n) × (before ≡ preceded more after)
+    × (n ≡ 0 → IsAtEnd before)
 IsFilled old new before after (Err e) = (new ≡ old) × (after ≡ before)
 
 -- the place of the first newline, or none where there is none
 abbrev pub IsNewline : List ℕ → Option ℕ → Type 0
 IsNewline bytes None = has_newline bytes ≡ false
 IsNewline bytes (Some end) =
-    (end < length bytes) × (has_newline (take end bytes) ≡ false) × (bytes ≡ take end bytes ++ 10 ∷ drop (end + 1) bytes)
+    (end < length bytes) × (has_newline (take end bytes) ≡ false)
+    × (bytes ≡ take end bytes ++ 10 ∷ drop (end + 1) bytes)
 
 -- what was found in all that was left, of which these bytes are buffered
 abbrev pub IsFound : Known → ℕ → List ℕ → Known → Found → Type 0

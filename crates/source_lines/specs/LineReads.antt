@@ -11,7 +11,7 @@ use Rattle.source_lines.specs.declared.reads.Read.TheVariants.{Line, TooLong, En
 abbrev pub has_newline : List ℕ → Bool
 has_newline bytes = list_any (λ byte. byte == 10) bytes
 
--- The line stood in front, with a newline behind it, or it is the end of the input, with no newline and a byte at least.
+-- The line stood in front, with a newline behind it; or it is the end of the input, without one, and has a byte.
 abbrev pub IsNextLine : Known → List ℕ → Known → Type 0
 IsNextLine old line new =
     (has_newline line ≡ false)
@@ -20,7 +20,8 @@ IsNextLine old line new =
 -- More bytes than the limit stand in front with no newline among them.
 abbrev pub IsLong : Known → ℕ → Type 0
 IsLong old limit =
-    (front : List ℕ) × (rest : Known) × (old ≡ preceded front rest) × (has_newline front ≡ false) × (limit < length front)
+    (front : List ℕ) × (rest : Known) × (old ≡ preceded front rest)
+    × (has_newline front ≡ false) × (limit < length front)
 
 -- What a read comes to where no answer stays.
 abbrev pub Goes : Reader → Read → Reader → Type 0

@@ -22,7 +22,8 @@ fn a_value_is_written_as_its_canonical_text(rt: HostRuntime) -> Result<(), Fail>
     let value = request(alloc, 7)?;
     let line = line_of(alloc, &value)?;
     assert!(rt;
-        line.as_str() == "{\"base\":7,\"colors\":[\"A\",\"B\\n\"],\"dry\":true,\"more\":null,\"op\":\"set\"}\n"
+        line.as_str()
+            == "{\"base\":7,\"colors\":[\"A\",\"B\\n\"],\"dry\":true,\"more\":null,\"op\":\"set\"}\n"
     );
     Ok(())
 }
@@ -43,7 +44,15 @@ fn a_line_is_read_or_refused(rt: HostRuntime) -> Result<(), Fail> {
             == Some(12)
     );
     assert!(rt; is_read(alloc, b"[]")?);
-    for line in [b"".as_slice(), b"{", b"{}{}", b"01", b"[1,]", b"'a'", b"\"\xff\""] {
+    for line in [
+        b"".as_slice(),
+        b"{",
+        b"{}{}",
+        b"01",
+        b"[1,]",
+        b"'a'",
+        b"\"\xff\"",
+    ] {
         assert!(rt; !is_read(alloc, line)?);
     }
     Ok(())

@@ -1,0 +1,4 @@
+//! What is tested, by layer.
+
+mod json;
+mod reading;

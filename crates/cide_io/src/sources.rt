@@ -1,6 +1,6 @@
 //! The trait of sources, and reading to the end.
 
-ghost use Rattle.std.specs.Prelude.{◌≡◌, ℕ, ◌<◌, ◌≤◌, ◌^◌, length, IfOk, Err};
+ghost use Rattle.std.specs.Prelude.{◌≡◌, ℕ, ◌<◌, ◌≤◌, length, IfOk, Err};
 ghost use Rattle.std.specs.Vec.{vec_len};
 ghost use Rattle.cide_io.specs.Faults.{HasCause, Rose};
 ghost use Rattle.cide_io.specs.Known.{Known, IsTaken, IsReadAll};
@@ -40,7 +40,6 @@ fn zeros(alloc: Global, count: usize) -> Result<Vec<u8>, AllocError>
 /// Reads a source to its end, in pieces of [`PIECE`] bytes at most. A source with more bytes than the limit is too long,
 /// whatever comes behind them.
 pub fn read_all<S: Source>(alloc: Global, source: &mut S, limit: usize) -> Result<Vec<u8>, ReadAll>
-    requires { limit < 2 ^ 62 }
     ensures bytes { IsReadAll limit (S.left source.old) (S.left source.new) result }
     ensures later { S.faults source.old ≤ S.faults source.new }
     ensures cause { result ≡ Err ReadAll.ReadFault → Rose (S.faults source.old) (S.faults source.new) }

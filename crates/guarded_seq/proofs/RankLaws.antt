@@ -3,10 +3,9 @@ use Rattle.std.proofs.Common.{◌≡◌, ℕ, ◌+◌, ◌-◌, ◌<◌, ◌≤�
 use Rattle.std.proofs.Math.Dec.{eqb-suc-zero, eqb-zero-suc, eqb-suc-suc}
 use Rattle.std.proofs.lemmas.Bool.{ne_eqb}
 use Rattle.std.proofs.lemmas.Bool.Decides.{eqb_tells}
-use Rattle.std.proofs.lemmas.List.{take-append-drop, drop-take, take-map, get_or-take, length-take-le}
+use Rattle.std.proofs.lemmas.List.{take-append-drop, drop-take, take-map, get_or-take}
 use Rattle.std.proofs.lemmas.List.Elements.{filter-append, All-map}
 use Rattle.std.proofs.lemmas.List.Filters.{length-filter_more}
-use Rattle.std.proofs.lemmas.Option.{slice_get_within, get_or_from_slice_get}
 use Rattle.std.specs.Cmp.Lexicographic.{pointwise}
 use Rattle.cond_circuit.specs.Gates.{Gates}
 use Rattle.guarded_seq.specs.declared.guarded.Guarded.{Guarded}

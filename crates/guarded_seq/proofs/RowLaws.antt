@@ -1,5 +1,5 @@
 -- Rows of gates, and the sequences that their cells compare.
-use Rattle.std.proofs.Common.{◌≡◌, ℕ, ◌+◌, ◌<◌, ◌≤◌, Bool, false, not, List, length, map, take, get_or, All, Some, slice_get, refl, sym, ◌∙◌, ap, ap₂, subst, arith, suc}
+use Rattle.std.proofs.Common.{◌≡◌, ℕ, ◌+◌, ◌<◌, ◌≤◌, Bool, false, List, length, map, take, get_or, All, Some, slice_get, sym, ◌∙◌, ap, ap₂, subst, arith}
 use Rattle.std.proofs.Math.Numerals.{suc-eq-add-one}
 use Rattle.std.proofs.lemmas.List.{get_or-map, length-map, take_all}
 use Rattle.std.proofs.lemmas.List.Elements.{All-map}

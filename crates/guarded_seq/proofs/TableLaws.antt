@@ -1,5 +1,5 @@
 -- Tables of ranks: that rows make one, that it stays one while gates are added, and what its cells say of matches.
-use Rattle.std.proofs.Common.{◌≡◌, ℕ, ◌+◌, ◌-◌, ◌<◌, ◌≤◌, Bool, true, false, not, ◌&&◌, ◌==◌, cond, min, ◌⊎◌, inl, inr, List, [], ◌∷◌, length, map, filter, take, drop, ◌++◌, get_or, All, Result, Ok, Err, IfOk, refl, sym, ◌∙◌, ap, ap₂, subst, arith, length-append, zero, suc}
+use Rattle.std.proofs.Common.{◌≡◌, ℕ, ◌+◌, ◌-◌, ◌<◌, ◌≤◌, Bool, true, false, not, ◌&&◌, ◌==◌, cond, min, ◌⊎◌, inl, inr, List, [], ◌∷◌, length, map, filter, take, drop, ◌++◌, get_or, All, Result, IfOk, refl, sym, ◌∙◌, ap, ap₂, subst, arith, length-append, zero, suc}
 use Rattle.std.proofs.Math.Seq.{get_or-append_seam}
 use Rattle.std.proofs.lemmas.Bool.{eqb-true}
 use Rattle.std.proofs.lemmas.List.{take-map, get_or-map, get_or-take, get_or_default, get_or_append_left, map-append, length-map, length-drop}

@@ -1,4 +1,4 @@
-use Rattle.std.proofs.Common.{◌≡◌, true, List, sym, subst, ap₂, ◌∙◌}
+use Rattle.std.proofs.Common.{true, List, sym, subst, ap₂, ◌∙◌}
 use Rattle.cond_circuit.specs.Gates.{value}
 use Rattle.cond_circuit.proofs.FormulaGates.{same_worth}
 use Rattle.guarded_seq.specs.declared.guarded.Guarded.{Guarded}

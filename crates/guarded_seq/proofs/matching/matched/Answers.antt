@@ -1,4 +1,4 @@
-use Rattle.std.proofs.Common.{◌≡◌, ◌+◌, ◌<◌, length, take, arith, sym, subst, ap, ap₂, ◌∙◌}
+use Rattle.std.proofs.Common.{◌+◌, length, take, arith, sym, ap, ap₂, ◌∙◌}
 use Rattle.std.proofs.lemmas.List.{length-map, length-take-le, take-map}
 use Rattle.cond_circuit.specs.Gates.{value}
 use Rattle.cond_circuit.proofs.FormulaGates.{same_worth}

@@ -1,8 +1,7 @@
-use Rattle.std.proofs.Common.{◌≡◌, ◌+◌, ◌<◌, ◌∷◌, [], true, length, get_or, List, ℕ, refl, sym, subst, ap, ◌∙◌, arith, rules, length-append}
+use Rattle.std.proofs.Common.{◌≡◌, ◌+◌, ◌<◌, ◌∷◌, [], true, length, get_or, List, ℕ, sym, subst, ap, ◌∙◌, arith, rules, length-append}
 use Rattle.std.proofs.lemmas.Int.{clamps}
 use Rattle.std.proofs.lemmas.List.{length-map}
 use Rattle.std.proofs.lemmas.Option.{slice_get-get_or}
-use Rattle.cond_circuit.specs.Gates.{Gates}
 use Rattle.cond_circuit.proofs.ValueLemmas.{Grown-refl, Grown-trans, Grown-inside}
 use Rattle.guarded_seq.specs.declared.guarded.Guarded.{Guarded}
 use Rattle.guarded_seq.specs.Rows.{IsRow}

@@ -1,4 +1,4 @@
-use Rattle.std.proofs.Common.{◌≡◌, ◌-◌, ◌<◌, List, length, take, drop, map, sym, subst, ap, ◌∙◌}
+use Rattle.std.proofs.Common.{◌-◌, ◌<◌, List, length, take, drop, map, sym, subst, ap, ◌∙◌}
 use Rattle.std.proofs.lemmas.List.{take_rest, length-map}
 use Rattle.std.proofs.lemmas.List.Elements.{All-take, All-drop}
 use Rattle.guarded_seq.specs.declared.guarded.Guarded.{Guarded}

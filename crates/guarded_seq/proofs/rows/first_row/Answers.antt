@@ -1,4 +1,4 @@
-use Rattle.std.proofs.Common.{◌≡◌, ◌+◌, ◌++◌, ◌∷◌, [], refl, sym, subst, ap, ◌∙◌, arith, rules, List, ℕ}
+use Rattle.std.proofs.Common.{◌≡◌, ◌+◌, ◌∷◌, [], sym, subst, arith, rules, List, ℕ}
 use Rattle.cond_circuit.proofs.ValueLemmas.{Grown-refl, Grown-trans}
 use Rattle.guarded_seq.specs.Rows.{AreCells, first_cells}
 use Rattle.guarded_seq.proofs.CellLaws.{cells_one, cells_push, cells_grown, first_more}

@@ -1,6 +1,6 @@
-use Rattle.std.proofs.Common.{◌≡◌, ◌+◌, ◌++◌, ◌∷◌, [], refl, sym, subst, ap, ◌∙◌, arith, rules, List, ℕ}
+use Rattle.std.proofs.Common.{◌≡◌, ◌+◌, ◌∷◌, [], sym, subst, arith, rules, List, ℕ}
 use Rattle.std.proofs.lemmas.List.{get_or_read}
-use Rattle.cond_circuit.proofs.ValueLemmas.{Grown-refl, Grown-trans}
+use Rattle.cond_circuit.proofs.ValueLemmas.{Grown-trans}
 use Rattle.guarded_seq.specs.Rows.{AreCells, next_cells}
 use Rattle.guarded_seq.proofs.CellLaws.{cells_one, cells_push, cells_grown, edge_is, next_more}
 use Rattle.guarded_seq.proofs.rows.next_row.Goals as goal

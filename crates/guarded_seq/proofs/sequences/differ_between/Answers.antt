@@ -1,8 +1,8 @@
-use Rattle.std.proofs.Common.{◌≡◌, ◌<◌, length, get_or, refl, sym, subst, ap, ◌∙◌, arith, List, ℕ, Bool}
+use Rattle.std.proofs.Common.{◌≡◌, ◌<◌, length, get_or, sym, subst, ap, ◌∙◌, arith, List, ℕ}
 use Rattle.std.proofs.lemmas.List.{get_or_read, length-map}
 use Rattle.cond_circuit.specs.Gates.{Is, value}
 use Rattle.cond_circuit.proofs.ValueLemmas.{Grown-refl, Grown-trans, Grown-inside}
-use Rattle.guarded_seq.specs.Rows.{AreCells, IsRow}
+use Rattle.guarded_seq.specs.Rows.{IsRow}
 use Rattle.guarded_seq.specs.Sequences.{labels_differ}
 use Rattle.guarded_seq.proofs.CellLaws.{cells_inside}
 use Rattle.guarded_seq.proofs.CommonLaws.{read_item}

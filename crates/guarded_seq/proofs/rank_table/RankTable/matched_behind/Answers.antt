@@ -1,6 +1,5 @@
-use Rattle.std.proofs.Common.{◌≡◌, ℕ, ◌<◌, ◌≤◌, length, sym, subst, arith}
+use Rattle.std.proofs.Common.{ℕ, ◌<◌, length, sym, subst, arith}
 use Rattle.std.proofs.lemmas.Int.{clamps}
-use Rattle.cond_circuit.specs.Gates.{Gates}
 use Rattle.guarded_seq.proofs.TableLaws.{cell_inside, matched_worth}
 use Rattle.guarded_seq.proofs.rank_table.RankTable.matched_behind.Goals as goal
 

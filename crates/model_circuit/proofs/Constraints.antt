@@ -13,10 +13,10 @@ worth_more old new all g xs i x within there before is =
     record {
       inside = is.inside;
       worth = λ s.
-        is.worth s
-        ∙ ap (λ b. b && truth s x) (before.worth s)
-        ∙ ap (λ y. list_all (truth s) (take i xs) && truth s y) there
-        ∙ sym (list_all_more (truth s) xs i x within);
+          is.worth s
+          ∙ ap (λ b. b && truth s x) (before.worth s)
+          ∙ ap (λ y. list_all (truth s) (take i xs) && truth s y) there
+          ∙ sym (list_all_more (truth s) xs i x within);
     }
 
 not_false : (b : Bool) → (b ≡ false → ⊥) → b ≡ true

@@ -27,8 +27,8 @@ each-preserved c =
     record {
       grown = Grown-trans c.args.circuit.now c.each.circuit c.with_constraint.new.circuit c.each.invariant.grown c.with_constraint.ensures.grown;
       worth =
-        worth_more c.each.circuit c.with_constraint.new.circuit c.each.all c.in_ok-all.all c.slice-constraints.result.now c.each.constraint-index c.constraint-item.result
-        (omega arith) c.constraint-item.is c.each.invariant.worth c.in_ok-all.ensures.worth;
+          worth_more c.each.circuit c.with_constraint.new.circuit c.each.all c.in_ok-all.all c.slice-constraints.result.now c.each.constraint-index c.constraint-item.result
+          (omega arith) c.constraint-item.is c.each.invariant.worth c.in_ok-all.ensures.worth;
     }
 
 pub returns-clause-grown : goal.returns-clause-grown

@@ -23,12 +23,7 @@ fn fits(circuit: &Circuit, items: &[Guarded<u8>]) -> bool
     ensures { IsTrue result → AreInside circuit.now items.now }
 {
     let gates = circuit.gates();
-    for guarded in items {
-        if guarded.gate >= gates {
-            return false;
-        }
-    }
-    true
+    items.iter().all(|guarded| guarded.gate < gates)
 }
 
 /// Whether the gate is one of the circuit, and is true under the selection.

@@ -21,8 +21,10 @@ pub mod GoalBehind
 pub mod GoalCounted
 pub mod GoalRuns
 pub mod Kept
+pub mod KeptExpressions
 pub mod KeptMembers
 pub mod KeptNames
+pub mod KeptParts
 pub mod Law
 pub mod LexedTokens
 pub mod ListsSound

@@ -6,6 +6,7 @@ pub mod GoalViews
 pub mod Goals
 pub mod Languages
 pub mod Laws
+pub mod Parts
 pub mod Reading
 pub mod Waiting
 pub mod Wanted

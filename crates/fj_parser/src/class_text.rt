@@ -3,7 +3,8 @@
 ghost use Rattle.std.specs.Prelude.{◌≡◌, ℕ, true, nat_le, length, IfOk, Err};
 ghost use Rattle.cfj_model.specs.declared.class.Class.{Class};
 ghost use Rattle.cfj_model.specs.Faults.{single_classes, IsFirstFault, IsTextOf};
-ghost use Rattle.cfj_model.specs.ProductLines.{are_distinct, most_features};
+ghost use Rattle.cfj_model.specs.Numbered.{is_numbered_class};
+ghost use Rattle.cfj_model.specs.ProductLines.{are_distinct, class_size, is_class, most_features, most_size};
 ghost use Rattle.fj_parser.specs.Answers.{IsReadAs, IsRefusedAs};
 
 use crate::goal::Goal;
@@ -35,6 +36,10 @@ pub fn parse_class(alloc: Global, text: &str, model: &FeatureModel) -> Result<Cl
     // What is read is the value of a text of the grammar, and every text of the grammar is read.
     ensures read { IfOk result (λ class. IsTextOf (single_classes model.now.features) text.now class) }
     ensures only { (class : Class) → IsTextOf (single_classes model.now.features) text.now class → IsReadAs class result }
+    // A project keeps it, it fits, and it is numbered.
+    ensures kept { IfOk result (λ class. is_class (length model.now.features) class ≡ true) }
+    ensures fits { IfOk result (λ class. nat_le (class_size class) most_size ≡ true) }
+    ensures numbered { IfOk result (λ class. is_numbered_class class ≡ true) }
     // A fault is the first one, and every first fault is told.
     ensures fault { (at : ℕ) (kind : _) → result ≡ Err (ParseFault.At at kind) → IsFirstFault (single_classes model.now.features) text.now at kind }
     ensures first { (at : ℕ) (kind : _) → IsFirstFault (single_classes model.now.features) text.now at kind → IsRefusedAs at kind result }

@@ -4,7 +4,8 @@ ghost use Rattle.std.specs.Prelude.{◌≡◌, ℕ, true, nat_le, length, IfOk, 
 ghost use Rattle.cfj_model.specs.declared.class.Constructor.{Constructor};
 ghost use Rattle.cfj_model.specs.Faults.{IsFirstFault, IsTextOf};
 ghost use Rattle.cfj_words.specs.Names.{is_identifier};
-ghost use Rattle.cfj_model.specs.ProductLines.{are_distinct, most_features};
+ghost use Rattle.cfj_model.specs.Numbered.{is_numbered_ctor};
+ghost use Rattle.cfj_model.specs.ProductLines.{are_distinct, is_ctor, most_features};
 ghost use Rattle.fj_parser.specs.Answers.{IsReadAs, IsRefusedAs};
 ghost use Rattle.fj_parser.specs.Languages.{constructors};
 
@@ -43,6 +44,9 @@ pub fn parse_constructor(
     // What is read is the value of a text of the grammar, and every text of the grammar is read.
     ensures read { IfOk result (λ ctor. IsTextOf (constructors model.now.features class.now) text.now ctor) }
     ensures only { (ctor : Constructor) → IsTextOf (constructors model.now.features class.now) text.now ctor → IsReadAs ctor result }
+    // A project keeps it, and it is numbered.
+    ensures kept { IfOk result (λ ctor. is_ctor (length model.now.features) ctor ≡ true) }
+    ensures numbered { IfOk result (λ ctor. is_numbered_ctor ctor ≡ true) }
     // A fault is the first one, and every first fault is told.
     ensures fault { (at : ℕ) (kind : _) → result ≡ Err (ParseFault.At at kind) → IsFirstFault (constructors model.now.features class.now) text.now at kind }
     ensures first { (at : ℕ) (kind : _) → IsFirstFault (constructors model.now.features class.now) text.now at kind → IsRefusedAs at kind result }

@@ -1,8 +1,11 @@
 //! The text of an expression.
 
-ghost use Rattle.std.specs.Prelude.{◌≡◌, ℕ, IfOk, Err};
+ghost use Rattle.std.specs.Prelude.{◌≡◌, ℕ, true, IfOk, Err};
 ghost use Rattle.cfj_model.specs.declared.expr.Expr.{Expr};
+ghost use Rattle.cfj_model.specs.Expressions.{slots};
 ghost use Rattle.cfj_model.specs.Faults.{IsFirstFault, IsTextOf};
+ghost use Rattle.cfj_model.specs.Numbered.{run_from};
+ghost use Rattle.cfj_model.specs.ProductLines.{is_body};
 ghost use Rattle.fj_parser.specs.Answers.{IsReadAs, IsRefusedAs};
 ghost use Rattle.fj_parser.specs.Languages.{expressions};
 
@@ -27,6 +30,9 @@ pub fn parse_expr(alloc: Global, text: &str) -> Result<Expr, ParseFault>
     // What is read is the value of a text of the grammar, and every text of the grammar is read.
     ensures read { IfOk result (λ expr. IsTextOf expressions text.now expr) }
     ensures only { (expr : Expr) → IsTextOf expressions text.now expr → IsReadAs expr result }
+    // A project of any features keeps it as a body, and it is numbered.
+    ensures kept { IfOk result (λ expr. (features : ℕ) → is_body features expr ≡ true) }
+    ensures numbered { IfOk result (λ expr. run_from 0 (slots expr) ≡ true) }
     // A fault is the first one, and every first fault is told.
     ensures fault { (at : ℕ) (kind : _) → result ≡ Err (ParseFault.At at kind) → IsFirstFault expressions text.now at kind }
     ensures first { (at : ℕ) (kind : _) → IsFirstFault expressions text.now at kind → IsRefusedAs at kind result }

@@ -9,10 +9,10 @@
 //! `specs/Machine.antt` of `fj_machine` says how the machine goes on; each step of its code is proved equal to it. `proofs/Complete.antt` shows
 //! that the text of every tree is read, in the tree's roles and to its value; `Sound.antt` and `Law.antt` that what is read begins
 //! the text of a tree, and that where the machine is stuck no text goes on; `Kept.antt` that what is read is what a project's type
-//! keeps. In between stands what holds of any language and any machine that reads it token by token, by the facts of
-//! `specs/Laws.antt` alone: `Readers.antt`, `FirstFault.antt` and `Exact.antt` show that a text stands for one value or has one
-//! first fault, and not both; `Progress.antt` and `TokenReads.antt` carry this over the loop, which speaks of the machine alone;
-//! `Endings.antt` and `PartTexts.antt` say what its end means in a language.
+//! keeps, and `KeptParts.antt` the same of each part. In between stands what holds of any language and any machine that reads it token by
+//! token, by the facts of `specs/Laws.antt` alone: `Readers.antt`, `FirstFault.antt` and `Exact.antt` show that a text stands for one
+//! value or has one first fault, and not both; `Progress.antt` and `TokenReads.antt` carry this over the loop, which speaks of the
+//! machine alone; `Endings.antt` and `PartTexts.antt` say what its end means in a language.
 //!
 //! Parts of a project are read by the same machine and loop: `specs/Goals.antt` says where it starts for each and which tokens it
 //! takes at the part's begin and end, `specs/Languages.antt` which texts they are, and a file for each part (`ClassLaw.antt`,

@@ -7,6 +7,7 @@ ghost use Rattle.cfj_model.specs.declared.member.Member.{Member};
 ghost use Rattle.cfj_model.specs.Faults.{IsFirstFault, IsTextOf};
 ghost use Rattle.cfj_model.specs.ProductLines.{are_distinct, most_features};
 ghost use Rattle.fj_parser.specs.Answers.{IsReadAs, IsRefusedAs};
+ghost use Rattle.fj_parser.specs.Parts.{is_member, is_numbered_member};
 ghost use Rattle.fj_parser.specs.Wanted.{members_wanted};
 
 use crate::goal::Goal;
@@ -105,6 +106,9 @@ pub fn parse_member(
     // What is read is the value of a text of the grammar, and every text of the grammar is read.
     ensures read { IfOk result (λ member. IsTextOf (members_wanted want model.now.features) text.now member) }
     ensures only { (member : Member) → IsTextOf (members_wanted want model.now.features) text.now member → IsReadAs member result }
+    // A project keeps it, and it is numbered.
+    ensures kept { IfOk result (λ member. is_member (length model.now.features) member ≡ true) }
+    ensures numbered { IfOk result (λ member. is_numbered_member member ≡ true) }
     // A fault is the first one, and every first fault is told.
     ensures fault { (at : ℕ) (kind : _) → result ≡ Err (ParseFault.At at kind) → IsFirstFault (members_wanted want model.now.features) text.now at kind }
     ensures first { (at : ℕ) (kind : _) → IsFirstFault (members_wanted want model.now.features) text.now at kind → IsRefusedAs at kind result }

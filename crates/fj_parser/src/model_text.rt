@@ -5,6 +5,7 @@ ghost use Rattle.cfj_model.specs.declared.feature_model.FeatureModel.{FeatureMod
 ghost use Rattle.cfj_model.specs.Faults.{IsFirstFault, IsTextOf};
 ghost use Rattle.fj_parser.specs.Answers.{IsReadAs, IsRefusedAs};
 ghost use Rattle.fj_parser.specs.Languages.{models};
+ghost use Rattle.fj_parser.specs.Parts.{IsModel};
 
 use crate::goal::Goal;
 use crate::part::Part;
@@ -27,6 +28,8 @@ pub fn parse_model(alloc: Global, text: &str) -> Result<FeatureModel, ParseFault
     // What is read is the value of a text of the grammar, and every text of the grammar is read.
     ensures read { IfOk result (λ model. IsTextOf models text.now model) }
     ensures only { (model : FeatureModel) → IsTextOf models text.now model → IsReadAs model result }
+    // A project keeps it.
+    ensures kept { IfOk result (λ model. IsModel model) }
     // A fault is the first one, and every first fault is told.
     ensures fault { (at : ℕ) (kind : _) → result ≡ Err (ParseFault.At at kind) → IsFirstFault models text.now at kind }
     ensures first { (at : ℕ) (kind : _) → IsFirstFault models text.now at kind → IsRefusedAs at kind result }

@@ -2,7 +2,7 @@
 
 ghost use Rattle.std.specs.Prelude.{◌≡◌, ℕ, true, List, IfOk, Err};
 ghost use Rattle.cfj_model.specs.Faults.{IsFirstFault, IsTextOf};
-ghost use Rattle.cfj_words.specs.Names.{is_name};
+ghost use Rattle.cfj_words.specs.Names.{is_name, is_short_identifier};
 ghost use Rattle.fj_parser.specs.Answers.{IsReadAs, IsRefusedAs};
 ghost use Rattle.fj_parser.specs.Languages.{names};
 
@@ -36,6 +36,8 @@ pub fn parse_name(alloc: Global, text: &str) -> Result<Name, ParseFault>
     // What is read is the value of a text of the grammar, and every text of the grammar is read.
     ensures read { IfOk result (λ name. IsTextOf names text.now name) }
     ensures only { (name : List ℕ) → IsTextOf names text.now name → IsReadAs name result }
+    // A project keeps it, as the name of a class, a field or a method or as a word that uses one.
+    ensures kept { IfOk result (λ name. is_short_identifier name ≡ true) }
     // A fault is the first one, and every first fault is told.
     ensures fault { (at : ℕ) (kind : _) → result ≡ Err (ParseFault.At at kind) → IsFirstFault names text.now at kind }
     ensures first { (at : ℕ) (kind : _) → IsFirstFault names text.now at kind → IsRefusedAs at kind result }

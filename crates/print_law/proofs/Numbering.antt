@@ -93,17 +93,25 @@ module _ (features : List (List ℕ)) where
   sents_run n [] = refl
   sents_run n (d ∷ ds) = and_from _ _ (eq-eqb n n refl) (sents_run (n + 1) ds)
 
+  pub ctor_numbered : (k : ClassTree) → is_numbered_ctor (value_ctor features k) ≡ true
+  ctor_numbered k = and_from _ _ (and_from _ _ (params_run 0 k.params) (sents_run 0 k.sends)) (sents_run 0 k.assigns)
+
+  pub body_numbered : (t : ExprTree) → run_from 0 (slots (value_expr features 0 t).0) ≡ true
+  body_numbered t = (expr_runs 0 t).run
+
+  pub method_numbered : (m : MethodTree) → is_numbered_method (value_method features m) ≡ true
+  method_numbered m = and_from _ _ (params_run 0 m.params) (body_numbered m.body)
+
   methods_numbered : (ms : List MethodTree) → list_all is_numbered_method (map (value_method features) ms) ≡ true
   methods_numbered [] = refl
-  methods_numbered (m ∷ ms) = let r = expr_runs 0 m.body in and_from _ _ (and_from _ _ (params_run 0 m.params) r.run) (methods_numbered ms)
+  methods_numbered (m ∷ ms) = and_from _ _ (method_numbered m) (methods_numbered ms)
 
   pub class_numbered : (k : ClassTree) → is_numbered_class (value_class features k) ≡ true
   class_numbered k =
-      let ctor : is_numbered_ctor (value_ctor features k) ≡ true = and_from _ _ (and_from _ _ (params_run 0 k.params) (sents_run 0 k.sends)) (sents_run 0 k.assigns) in
       let methods = map (value_method features) k.methods in
       and_from _ _
       (and_from _ _
-      (and_from _ _ (fields_are_numbered (map (value_field features) k.fields)) ctor)
+      (and_from _ _ (fields_are_numbered (map (value_field features) k.fields)) (ctor_numbered k))
       (methods_are_numbered methods))
       (numbered_methods-all is_numbered_method (λ m n. refl) methods ∙ methods_numbered k.methods)
 

@@ -1,10 +1,14 @@
 use Rattle.std.proofs.Common.{[]}
+use Rattle.std.proofs.lemmas.Result.{IfOk-weaker}
+use Rattle.cfj_model.specs.Faults.{IsTextOf}
 use Rattle.fj_parser.specs.Languages.{models}
 use Rattle.fj_parser.specs.Goals.{reader_for}
 use Rattle.fj_machine.specs.Machine.{unnamed}
 use Rattle.fj_parser.specs.declared.goal.Goal.TheVariants as reads
 use Rattle.fj_parser.proofs.ModelLaw.{model_laws}
 use Rattle.fj_parser.proofs.Exact.{only_read, only_told}
+use Rattle.fj_parser.specs.Parts.{IsModel}
+use Rattle.fj_parser.proofs.TextsKept.{model_text_kept}
 use Rattle.fj_parser.proofs.model_text.parse_model.Goals as goal
 
 pub returns-clause-only : goal.returns-clause-only
@@ -14,3 +18,6 @@ returns-clause-only c =
 pub returns-clause-first : goal.returns-clause-first
 returns-clause-first c =
     only_told models (reader_for reads.Model [] unnamed) model_laws c.args.text.now c.read_model.result c.read_model.ensures.read c.read_model.ensures.fault
+
+pub returns-clause-kept : goal.returns-clause-kept
+returns-clause-kept c = IfOk-weaker c.read_model.result (IsTextOf models c.args.text.now) IsModel (model_text_kept c.args.text.now) c.read_model.ensures.read

@@ -48,6 +48,15 @@ impl FeatureSet {
         }
     }
 
+    /// The members of both.
+    pub fn union(self, other: FeatureSet) -> FeatureSet
+        ensures { result ≡ bit_or self other }
+    {
+        FeatureSet {
+            bits: self.bits | other.bits,
+        }
+    }
+
     /// Whether this feature is in the set.
     pub fn has(&self, feature: u8) -> bool
         requires { feature < 128 }

@@ -1,4 +1,5 @@
 mod Paths
 pub mod ExprCases
 pub mod Members
+pub mod Numbering
 pub mod Positions

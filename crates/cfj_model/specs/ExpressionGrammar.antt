@@ -4,6 +4,7 @@ use Rattle.std.specs.Prelude.{ℕ, ◌+◌, List, [], ◌∷◌, ◌++◌, codes
 use Rattle.cfj_model.specs.declared.expr.Arg.{Arg}
 use Rattle.cfj_model.specs.declared.expr.Expr.{Expr}
 use Rattle.cfj_model.specs.declared.expr.Expr.TheVariants as e
+use Rattle.cfj_model.specs.declared.signed.Signed.{Signed}
 use Rattle.cfj_model.specs.Marks.{spell_marks, roles_marks, colors_of}
 use Rattle.cfj_words.specs.Tokens.{Token, Id, NewWord, ThisWord, OpenParen, CloseParen, Comma, Dot}
 use Rattle.cfj_model.specs.Roles.{Role, casts, node, opens, other_token, used_name, var_name}
@@ -30,12 +31,12 @@ mutual
   -- list(arg), where an argument is marks and an expression
   pub data ArgsTree : Type 0 where
     no_args : ArgsTree
-    first_arg : List (List ℕ) → ExprTree → MoreArgsTree → ArgsTree
+    first_arg : List Signed → ExprTree → MoreArgsTree → ArgsTree
 
   -- {"," arg}
   pub data MoreArgsTree : Type 0 where
     no_more : MoreArgsTree
-    next_arg : List (List ℕ) → ExprTree → MoreArgsTree → MoreArgsTree
+    next_arg : List Signed → ExprTree → MoreArgsTree → MoreArgsTree
 
 -- the tokens of a tree, and what follows
 abbrev mutual

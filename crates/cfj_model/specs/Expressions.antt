@@ -1,6 +1,7 @@
 -- Expressions of Featherweight Java (Igarashi, Pierce, Wadler, TOPLAS 23(3), 2001) with marked arguments: what a body keeps.
-use Rattle.std.specs.Prelude.{ℕ, ◌+◌, Bool, true, false, ◌&&◌, ◌==◌, nat_lt, max, if◌then◌else◌, List, [], ◌∷◌, ◌++◌, flat_map, sum_by, ◌^◌}
+use Rattle.std.specs.Prelude.{ℕ, ◌+◌, Bool, true, false, ◌&&◌, max, if◌then◌else◌, List, [], ◌∷◌, ◌++◌, flat_map, sum_by}
 use Rattle.std.specs.List.{list_all}
+use Rattle.cfj_model.specs.Coloring.{Palette, are_known, is_unmarked}
 use Rattle.cfj_words.specs.Names.{is_name, is_short_identifier}
 use Rattle.cfj_model.specs.declared.expr.Expr.{Expr}
 use Rattle.cfj_model.specs.declared.expr.Arg.{Arg-F}
@@ -62,10 +63,6 @@ nesting_of_arg a = a.expr.depth
 abbrev pub nest : Expr → ℕ
 nest e = (fold-Expr Nesting ℕ nesting_step nesting_of_arg e).depth
 
--- all colours are features of a model with so many
-abbrev pub are_known : ℕ → ℕ → Bool
-are_known features colors = nat_lt colors (2 ^ features)
-
 abbrev pub is_named_step : Expr-F Bool Bool → Bool
 is_named_step (Expr-F.Var slot name) = is_name name
 is_named_step (Expr-F.Get slot on field) = on && is_short_identifier field
@@ -73,12 +70,12 @@ is_named_step (Expr-F.Call slot on method args) = on && is_short_identifier meth
 is_named_step (Expr-F.New slot class args) = is_short_identifier class && list_all (λ a. a) args
 is_named_step (Expr-F.Cast slot class on) = is_short_identifier class && on
 
-abbrev pub is_named_arg : ℕ → Arg-F Bool Bool → Bool
-is_named_arg features a = are_known features a.colors && a.expr
+abbrev pub is_named_arg : Palette → Arg-F Bool Bool → Bool
+is_named_arg palette a = are_known palette a.colors && a.expr
 
--- its names are identifiers, but for variables named `this`, and its arguments are marked with known features
-abbrev pub is_named : ℕ → Expr → Bool
-is_named features = fold-Expr Bool Bool is_named_step (is_named_arg features)
+-- its names are identifiers, but for variables named `this`, and the marks of its arguments may be there
+abbrev pub is_named : Palette → Expr → Bool
+is_named palette = fold-Expr Bool Bool is_named_step (is_named_arg palette)
 
 abbrev pub is_bare_step : Expr-F Bool Bool → Bool
 is_bare_step (Expr-F.Var slot name) = true
@@ -88,7 +85,7 @@ is_bare_step (Expr-F.New slot class args) = list_all (λ a. a) args
 is_bare_step (Expr-F.Cast slot class on) = on
 
 abbrev pub is_bare_arg : Arg-F Bool Bool → Bool
-is_bare_arg a = (a.colors == 0) && a.expr
+is_bare_arg a = is_unmarked a.colors && a.expr
 
 -- none of its arguments is marked
 abbrev pub is_bare : Expr → Bool

@@ -1,4 +1,4 @@
--- The texts of a language, and the first fault of any other text.
+-- The first fault of a text that isn't one of a language.
 use Rattle.std.specs.Prelude.{◌≡◌, ℕ, true, false, List, [], ◌∷◌, ◌++◌, length, take, Option, Some, None}
 use Rattle.std.specs.Str.{chars, IsUtf8, IsValidUpTo}
 use Rattle.cfj_model.specs.declared.fault.FaultKind.{FaultKind}
@@ -6,45 +6,8 @@ use Rattle.cfj_model.specs.declared.fault.FaultKind.TheVariants.{BadChar, OpenCo
 use Rattle.cfj_words.specs.Names.{is_identifier}
 use Rattle.cfj_words.specs.Lexemes.{Lexed, Found, AtEnd, NoToken, NoClose, next_lexeme}
 use Rattle.cfj_words.specs.Tokens.{Token, Id, End, Takes, token_seen, place_of, is_reserved_word}
-use Rattle.cfj_model.specs.ProductLines.{ProductLine}
-use Rattle.cfj_model.specs.declared.class.Class.{Class}
-use Rattle.cfj_model.specs.Grammar.{Tree, spell, value, ClassTree, spell_class, value_class}
-use Rattle.cfj_model.specs.TreeRoles.{roles, roles_class}
-use Rattle.cfj_model.specs.Roles.{Role, Tally, other_token, nothing, tallied, broken_by, AreWithin, are_settled}
-
--- A language: its trees, the tokens that a tree spells, their roles, the value that a tree stands for, and what counts as met
--- before a text begins.
-pub record Language (V : Type 0) : Type 1 where
-  pub Tree : Type 0
-  pub spell : Tree → List Token → List Token
-  pub roles : Tree → List Role → List Role
-  pub value : Tree → V
-  pub met : Tally
-
--- whole projects
-abbrev pub projects : Language ProductLine
-projects = record { Tree = Tree; spell = spell; roles = roles; value = value; met = nothing }
-
--- single classes, whose nodes may be marked with these features
-abbrev pub single_classes : List (List ℕ) → Language Class
-single_classes features =
-    record {
-      Tree = ClassTree;
-      spell = spell_class;
-      roles = roles_class;
-      value = value_class features;
-      met = record nothing { features = features };
-    }
-
--- The text is one of the language, within the limits, and stands for this value.
-pub record IsTextOf {V : Type 0} (l : Language V) (text : List ℕ) (v : V) : Type 0 where
-  pub utf8 : IsUtf8 text
-  pub tree : l.Tree
-  pub rest : List ℕ
-  pub spelled : Takes (chars text) (l.spell tree []) rest
-  pub ended : next_lexeme rest ≡ AtEnd
-  pub within : AreWithin l.met (l.roles tree [])
-  pub valued : v ≡ l.value tree
+use Rattle.cfj_model.specs.Languages.{Language}
+use Rattle.cfj_model.specs.Roles.{Role, other_token, tallied, broken_by, AreWithin, are_settled}
 
 -- A text of the language begins with these tokens, in these roles.
 pub record Begins {V : Type 0} (l : Language V) (front : List Token) (rs : List Role) : Type 0 where

@@ -6,6 +6,9 @@ use Rattle.cfj_model.specs.declared.class.Sent.{Sent}
 use Rattle.cfj_model.specs.declared.class.Constructor.{Constructor}
 use Rattle.cfj_model.specs.declared.class.Method.{Method}
 use Rattle.cfj_model.specs.declared.class.Class.{Class}
+use Rattle.cfj_model.specs.declared.feature_model.Format.{Format}
+use Rattle.cfj_model.specs.declared.feature_model.Format.TheVariants.{One, Two}
+use Rattle.cfj_model.specs.declared.signed.Signed.{Signed}
 use Rattle.cfj_model.specs.ProductLines.{ProductLine}
 use Rattle.cfj_model.specs.ExpressionGrammar.{ExprTree, spell_expr, value_expr}
 use Rattle.cfj_model.specs.FormulaGrammar.{IffTree, spell_iff, value_iff}
@@ -15,17 +18,17 @@ use Rattle.cfj_words.specs.Tokens.{Token, Id, ClassWord, ExtendsWord, SuperWord,
 
 -- marks, a type and a name: of a field, or of a parameter
 pub record Declared : Type 0 where
-  pub marks : List (List ℕ)
+  pub marks : List Signed
   pub of : List ℕ
   pub name : List ℕ
 
 -- marks and a name that is sent, or assigned
 pub record Named : Type 0 where
-  pub marks : List (List ℕ)
+  pub marks : List Signed
   pub name : List ℕ
 
 pub record MethodTree : Type 0 where
-  pub marks : List (List ℕ)
+  pub marks : List Signed
   pub result : List ℕ
   pub name : List ℕ
   pub params : List Declared
@@ -33,7 +36,7 @@ pub record MethodTree : Type 0 where
 
 -- The constructor's name is the class's, and so isn't told twice. The same holds of both names of an assignment.
 pub record ClassTree : Type 0 where
-  pub marks : List (List ℕ)
+  pub marks : List Signed
   pub name : List ℕ
   pub parent : List ℕ
   pub fields : List Declared
@@ -42,13 +45,18 @@ pub record ClassTree : Type 0 where
   pub assigns : List Named
   pub methods : List MethodTree
 
--- a project: its features, in a line where there are any, its constraints and its classes
+-- a project: its format, which is Two where a line says so, its features, in a line where there are any, its constraints and its classes
 pub record Tree : Type 0 where
+  pub format : Format
   pub features : List (List ℕ)
   pub constraints : List IffTree
   pub classes : List ClassTree
 
--- the word that begins a feature line; it is an identifier like any other
+-- the word of the line for format Two; it is an identifier like any other
+abbrev pub format_word : List ℕ
+format_word = codes "format2"
+
+-- the word that begins a feature line; it is an identifier too
 abbrev pub features_word : List ℕ
 features_word = codes "features"
 
@@ -59,6 +67,11 @@ constraint_word = codes "constraint"
 -- id
 abbrev pub spell_name : List ℕ → List Token → List Token
 spell_name w rest = Id w ∷ rest
+
+-- ["format2" ";"]
+abbrev pub spell_format : Format → List Token → List Token
+spell_format One rest = rest
+spell_format Two rest = Id format_word ∷ Semicolon ∷ rest
 
 -- ["features" id {"," id} ";"]
 abbrev pub spell_features : List (List ℕ) → List Token → List Token
@@ -118,9 +131,10 @@ spell_class k rest =
     ∷ Id k.name
     ∷ ExtendsWord ∷ Id k.parent ∷ OpenBrace ∷ in_order spell_field k.fields (spell_ctor k (in_order spell_method k.methods (CloseBrace ∷ rest))))
 
--- project: ["features" id {"," id} ";"] {"constraint" iff ";"} {class}
+-- project: ["format2" ";"] ["features" id {"," id} ";"] {"constraint" iff ";"} {class}
 abbrev pub spell : Tree → List Token → List Token
-spell tree rest = spell_features tree.features (in_order spell_constraint tree.constraints (in_order spell_class tree.classes rest))
+spell tree rest =
+    spell_format tree.format (spell_features tree.features (in_order spell_constraint tree.constraints (in_order spell_class tree.classes rest)))
 
 -- Items with their places in their list, from a number on.
 abbrev pub numbered : {A B : Type 0} → (ℕ → A → B) → ℕ → List A → List B
@@ -170,4 +184,8 @@ value_class features k =
 
 -- the product line that a tree stands for; it is numbered
 abbrev pub value : Tree → ProductLine
-value tree = record { model = record { features = tree.features; constraints = map (value_iff tree.features) tree.constraints }; classes = map (value_class tree.features) tree.classes }
+value tree =
+    record {
+      model = record { format = tree.format; features = tree.features; constraints = map (value_iff tree.features) tree.constraints };
+      classes = map (value_class tree.features) tree.classes;
+    }

@@ -134,8 +134,9 @@ argument_rules rule (a ∷ xs) (b ∷ bs) = a.rules ((rule, b) ∷ []) ++ argume
 abbrev pub type_if : Bool → List ℕ → Option (List ℕ)
 type_if ok t = if ok then Some t else None
 
-abbrev pub judged_variable : Environment → ℕ → List ℕ → JudgedExpr
-judged_variable g slot x = record { type = variable_type g x; rules = λ more. (slot, (E1, not (is_some (variable_type g x))) ∷ more) ∷ [] }
+-- a variable, by the types that variables have
+abbrev pub judged_variable : (List ℕ → Option (List ℕ)) → ℕ → List ℕ → JudgedExpr
+judged_variable types slot x = record { type = types x; rules = λ more. (slot, (E1, not (is_some (types x))) ∷ more) ∷ [] }
 
 -- a field of a receiver that has a type
 abbrev pub accessed : Table → Option (List ℕ) → List ℕ → Option (List ℕ)
@@ -191,12 +192,17 @@ judged_cast p slot c on =
       rules = λ more. (slot, (K1, not (is_known p c)) ∷ with_ruling (E8, is_unrelated p on.type c) more) ∷ on.rules [];
     }
 
+-- a node, by the types that variables have and by its judged parts
+abbrev pub judged_step_with : Table → (List ℕ → Option (List ℕ)) → Expr-F JudgedExpr JudgedExpr → JudgedExpr
+judged_step_with p types (Expr-F.Var slot name) = judged_variable types slot name
+judged_step_with p types (Expr-F.Get slot on field) = judged_access p slot on field
+judged_step_with p types (Expr-F.Call slot on method args) = judged_call p slot on method args
+judged_step_with p types (Expr-F.New slot class args) = judged_new p slot class args
+judged_step_with p types (Expr-F.Cast slot class on) = judged_cast p slot class on
+
+-- a node of a body
 abbrev pub judged_step : Table → Environment → Expr-F JudgedExpr JudgedExpr → JudgedExpr
-judged_step p g (Expr-F.Var slot name) = judged_variable g slot name
-judged_step p g (Expr-F.Get slot on field) = judged_access p slot on field
-judged_step p g (Expr-F.Call slot on method args) = judged_call p slot on method args
-judged_step p g (Expr-F.New slot class args) = judged_new p slot class args
-judged_step p g (Expr-F.Cast slot class on) = judged_cast p slot class on
+judged_step p g = judged_step_with p (variable_type g)
 
 abbrev pub judged_arg : Arg-F JudgedExpr JudgedExpr → JudgedExpr
 judged_arg a = a.expr
@@ -204,6 +210,10 @@ judged_arg a = a.expr
 -- An expression has a type exactly where each part directly under it has one, no rule breaks at it, and no argument of it misfits.
 abbrev pub judged_expr : Table → Environment → Expr → JudgedExpr
 judged_expr p g = fold-Expr JudgedExpr JudgedExpr (judged_step p g) judged_arg
+
+-- an expression by itself, where no variable has a type
+abbrev pub judged_alone : Table → Expr → JudgedExpr
+judged_alone p = fold-Expr JudgedExpr JudgedExpr (judged_step_with p (λ x. None)) judged_arg
 
 -- ---- declarations
 

@@ -1,3 +1,4 @@
+pub mod Coloring
 pub mod ExpressionGrammar
 pub mod Expressions
 pub mod FaultTexts
@@ -5,10 +6,13 @@ pub mod Faults
 pub mod FormulaGrammar
 pub mod Grammar
 pub mod Judging
+pub mod Languages
 pub mod LookUps
 pub mod Marks
 pub mod Members
 pub mod Numbered
+pub mod PartLanguages
+pub mod Parts
 pub mod Paths
 pub mod Print
 pub mod ProductLines

@@ -1,8 +1,11 @@
 -- Lists in the grammar, and the marks before a node: what they spell, the roles of their tokens and the colours that they give.
-use Rattle.std.specs.Prelude.{ℕ, ◌^◌, List, [], ◌∷◌, position, bit_or, Option, Some, None}
+use Rattle.std.specs.Prelude.{ℕ, Bool, true, false, List, [], ◌∷◌, if◌then◌else◌, position, Option, Some, None}
 use Rattle.std.specs.Str.{bytes_eq}
-use Rattle.cfj_words.specs.Tokens.{Token, Id, At}
-use Rattle.cfj_model.specs.Roles.{Role, mark_name, other_token}
+use Rattle.cfj_logic.specs.Sides.{Sides}
+use Rattle.cfj_words.specs.Tokens.{Token, Id, At, Bang}
+use Rattle.cfj_model.specs.Coloring.{is_marked, no_colors, with_mark}
+use Rattle.cfj_model.specs.Roles.{Role, mark_name, other_token, sign}
+use Rattle.cfj_model.specs.declared.signed.Signed.{Signed}
 
 -- {X}, and what follows
 abbrev pub in_order : {A B : Type 0} → (A → List B → List B) → List A → List B → List B
@@ -19,34 +22,44 @@ abbrev pub separated : {A B : Type 0} → B → (A → List B → List B) → Li
 separated comma spell [] rest = rest
 separated comma spell (x ∷ xs) rest = spell x (each_behind comma spell xs rest)
 
--- "@" id
-abbrev pub spell_mark : List ℕ → List Token → List Token
-spell_mark m rest = At ∷ Id m ∷ rest
+-- ["!"], and what follows
+abbrev pub spell_sign : Bool → List Token → List Token
+spell_sign false rest = rest
+spell_sign true rest = Bang ∷ rest
 
--- marks: {"@" id}
-abbrev pub spell_marks : List (List ℕ) → List Token → List Token
+-- "@" ["!"] id
+abbrev pub spell_mark : Signed → List Token → List Token
+spell_mark m rest = At ∷ spell_sign m.off (Id m.name ∷ rest)
+
+-- marks: {"@" ["!"] id}
+abbrev pub spell_marks : List Signed → List Token → List Token
 spell_marks = in_order spell_mark
 
 -- the roles of their tokens
-abbrev pub roles_mark : List ℕ → List Role → List Role
-roles_mark m rest = other_token ∷ mark_name m ∷ rest
+abbrev pub roles_sign : Bool → List Role → List Role
+roles_sign false rest = rest
+roles_sign true rest = sign ∷ rest
 
-abbrev pub roles_marks : List (List ℕ) → List Role → List Role
+abbrev pub roles_mark : Signed → List Role → List Role
+roles_mark m rest = other_token ∷ roles_sign m.off (mark_name m.name ∷ rest)
+
+abbrev pub roles_marks : List Signed → List Role → List Role
 roles_marks = in_order roles_mark
 
--- the set of one feature, by its name; of a name that isn't a feature the empty set
-abbrev pub color_at : Option ℕ → ℕ
-color_at None = 0
-color_at (Some feature) = 2 ^ feature
+-- colours and a mark of this feature, where there is one; of marks of one feature the first counts
+abbrev pub marked_at : Option ℕ → Bool → Sides → Sides
+marked_at None off colors = colors
+marked_at (Some feature) off colors = if is_marked feature colors then colors else with_mark off feature colors
 
-abbrev pub color_of : List (List ℕ) → List ℕ → ℕ
-color_of features m = color_at (position (λ f. bytes_eq f m) features)
+-- colours and a mark, over features with these names; of a name that isn't a feature's nothing comes
+abbrev pub marked : List (List ℕ) → Sides → Signed → Sides
+marked features colors m = marked_at (position (λ f. bytes_eq f m.name) features) m.off colors
 
--- a set and the features of these marks
-abbrev pub colored : List (List ℕ) → ℕ → List (List ℕ) → ℕ
+-- colours and these marks
+abbrev pub colored : List (List ℕ) → Sides → List Signed → Sides
 colored features colors [] = colors
-colored features colors (m ∷ ms) = colored features (bit_or colors (color_of features m)) ms
+colored features colors (m ∷ ms) = colored features (marked features colors m) ms
 
--- the set of the features that a node is marked with, whatever their order
-abbrev pub colors_of : List (List ℕ) → List (List ℕ) → ℕ
-colors_of features = colored features 0
+-- the colours of a node with these marks
+abbrev pub colors_of : List (List ℕ) → List Signed → Sides
+colors_of features = colored features no_colors

@@ -1,6 +1,6 @@
 -- The printed form of a product line. The colours of CIDE (Kästner, Apel, Kuhlemann, ICSE 2008) are marks before their nodes;
--- where no features are given there are none.
-use Rattle.std.specs.Prelude.{ℕ, Bool, true, false, nat_lt, List, [], ◌∷◌, ◌++◌, codes, get_or, if◌then◌else◌}
+-- where no features are given there are none. The `!` of a mark and the line for format Two are this project's own.
+use Rattle.std.specs.Prelude.{ℕ, Bool, true, false, nat_lt, List, [], ◌∷◌, ◌++◌, codes, flat_map, get_or, if◌then◌else◌}
 use Rattle.std.specs.List.{enumerate_from}
 use Rattle.cfj_model.specs.declared.class.Field.{Field}
 use Rattle.cfj_model.specs.declared.class.Param.{Param}
@@ -16,7 +16,10 @@ use Rattle.cfj_logic.specs.declared.formula.Formula.{Formula}
 use Rattle.cfj_logic.specs.declared.formula.Formula.TheOpen.{Formula-F}
 use Rattle.cfj_logic.specs.declared.formula.Formula.TheFolds.{fold-Formula}
 use Rattle.cfj_model.specs.ProductLines.{ProductLine}
-use Rattle.cfj_logic.specs.Selections.{has_bit}
+use Rattle.cfj_logic.specs.Sides.{Sides}
+use Rattle.cfj_model.specs.Coloring.{has_mark}
+use Rattle.cfj_model.specs.declared.feature_model.Format.{Format}
+use Rattle.cfj_model.specs.declared.feature_model.Format.TheVariants.{One, Two}
 
 -- the end of a line
 abbrev pub line_end : List ℕ
@@ -37,15 +40,27 @@ abbrev pub joined : {A : Type 0} → (A → List ℕ) → List A → List ℕ
 joined text [] = []
 joined text (x ∷ xs) = text x ++ texts_behind text xs
 
+-- each behind a space
+abbrev pub spaced_behind : List (List ℕ) → List ℕ
+spaced_behind [] = []
+spaced_behind (x ∷ xs) = codes " " ++ (x ++ spaced_behind xs)
+
+-- joined by a space
+abbrev pub spaced : List (List ℕ) → List ℕ
+spaced [] = []
+spaced (x ∷ xs) = x ++ spaced_behind xs
+
 abbrev pub name_text : List ℕ → List ℕ
 name_text name = name
 
--- `@A ` where the feature of this number and name is among the colours
-abbrev pub mark_text : ℕ → ℕ × List ℕ → List ℕ
-mark_text colors feature = if has_bit colors feature.0 then codes "@" ++ (feature.1 ++ codes " ") else []
+-- `@A ` where the feature of this number and name is wanted, and `@!A ` where it is one that isn't
+abbrev pub mark_text : Sides → ℕ × List ℕ → List ℕ
+mark_text colors feature =
+    if has_mark false feature.0 colors then codes "@" ++ (feature.1 ++ codes " ") else
+    if has_mark true feature.0 colors then codes "@!" ++ (feature.1 ++ codes " ") else []
 
 -- the marks of a node, in declaration order
-abbrev pub marks_text : List (List ℕ) → ℕ → List ℕ
+abbrev pub marks_text : List (List ℕ) → Sides → List ℕ
 marks_text features colors = texts (mark_text colors) (enumerate_from 0 features)
 
 -- `  T f;`
@@ -122,6 +137,11 @@ class_text features k =
     ++ (k.parent
     ++ (codes " {" ++ (line_end ++ (texts (field_text features) k.fields ++ (ctor_text features k.name k.ctor ++ (texts (method_text features) k.methods ++ (codes "}" ++ line_end))))))))))
 
+-- `format2;` on a line, in format Two
+abbrev pub format_text : Format → List ℕ
+format_text One = []
+format_text Two = codes "format2;" ++ line_end
+
 -- `features A, B;` on a line, where there are features
 abbrev pub features_text : List (List ℕ) → List ℕ
 features_text [] = []
@@ -154,11 +174,22 @@ formula_text features f = (fold-Formula ShownFormula (shown_formula_step feature
 abbrev pub constraint_text : List (List ℕ) → Formula → List ℕ
 constraint_text features f = codes "constraint " ++ (formula_text features f ++ (codes ";" ++ line_end))
 
--- the feature line, a line for each constraint, and the classes, one after another
+-- the line for format Two, the feature line, a line for each constraint, and the classes, one after another
 abbrev pub printed : ProductLine → List ℕ
 printed line =
-    features_text line.model.features
-    ++ (texts (constraint_text line.model.features) line.model.constraints ++ texts (class_text line.model.features) line.classes)
+    format_text line.model.format
+    ++ (features_text line.model.features
+    ++ (texts (constraint_text line.model.features) line.model.constraints ++ texts (class_text line.model.features) line.classes))
+
+-- of a feature of this number and name, `A` where it is wanted and `!A` where it is one that isn't, in this order where it is both
+abbrev pub signed_names : Sides → ℕ × List ℕ → List (List ℕ)
+signed_names colors feature =
+    (if has_mark false feature.0 colors then feature.1 ∷ [] else [])
+    ++ (if has_mark true feature.0 colors then (codes "!" ++ feature.1) ∷ [] else [])
+
+-- `[A !B]`: what is wanted of a selection, in declaration order
+abbrev pub presence_text : List (List ℕ) → Sides → List ℕ
+presence_text features colors = codes "[" ++ (spaced (flat_map (signed_names colors) (enumerate_from 0 features)) ++ codes "]")
 
 -- the classes alone, without marks
 abbrev pub plain_printed : List Class → List ℕ

@@ -2,20 +2,26 @@
 use Rattle.std.specs.Prelude.{◌≡◌, ℕ, ◌+◌, Bool, true, ◌&&◌, not, nat_lt, nat_le, if◌then◌else◌, List, [], ◌∷◌, ◌++◌, length, Option, Some, None}
 use Rattle.std.specs.Str.{bytes_eq}
 use Rattle.cfj_model.specs.declared.fault.FaultKind.{FaultKind}
-use Rattle.cfj_model.specs.declared.fault.FaultKind.TheVariants.{Reserved, NoFeature, Twice, Limit}
+use Rattle.cfj_model.specs.declared.fault.FaultKind.TheVariants.{Reserved, NoFeature, Twice, Limit, Unexpected}
 use Rattle.cfj_model.specs.declared.fault.LimitKind.{LimitKind}
 use Rattle.cfj_model.specs.declared.fault.LimitKind.TheVariants as limit
+use Rattle.cfj_model.specs.declared.feature_model.Format.{Format}
+use Rattle.cfj_model.specs.declared.feature_model.Format.TheVariants.{One, Two}
+use Rattle.cfj_model.specs.Coloring.{is_two}
 use Rattle.cfj_words.specs.Names.{is_among, most_name_bytes}
 use Rattle.cfj_model.specs.ProductLines.{object, most_features, most_classes, most_fields, most_methods, most_params, most_in_ctor, most_formula_nodes, most_nest, most_nodes, most_size}
 
--- What a token is. Names: of a declared feature, in a mark, in a formula, of a class, a field, a method, a parameter of a
--- constructor, one of a method, sent, the first of an assignment, of a variable, and any other. In formulas: a constant or a
--- connective, and one that is open over what follows. Brackets that open: of a cast, and of anything else that nests; with the
--- number that is open with it. The own token of an expression's node that is no name, and any other token.
+-- What a token is. The word of the line for format Two. Names: of a declared feature, in a mark, in a formula, of a feature elsewhere,
+-- of a class, a field, a method, a parameter of a constructor, one of a method, sent, the first of an assignment, of a variable, and any
+-- other. The `!` of a mark. In formulas: a constant or a connective, and one that is open over what follows. Brackets that open: of a
+-- cast, and of anything else that nests; with the number that is open with it. The own token of an expression's node that is no name,
+-- and any other token.
 pub data Role : Type 0 where
+  format_line : Role
   feature_name : List ℕ → Role
   mark_name : List ℕ → Role
   formula_name : List ℕ → Role
+  known_name : List ℕ → Role
   class_name : List ℕ → Role
   field_name : List ℕ → Role
   method_name : List ℕ → Role
@@ -25,6 +31,7 @@ pub data Role : Type 0 where
   assigned_name : List ℕ → Role
   var_name : List ℕ → Role
   used_name : List ℕ → Role
+  sign : Role
   formula_node : Role
   formula_opens : ℕ → Role
   opens : ℕ → Role
@@ -32,12 +39,13 @@ pub data Role : Type 0 where
   node : Role
   other_token : Role
 
--- What has been met before a place: the features, the nodes of all formulas, the marks of the node in hand, all class names, how
+-- What has been met before a place: the format, the features, the nodes of all formulas, the marks of the node in hand, all class names, how
 -- many members, parameters, sent names and assignments the class in hand has, the names of the parameters of the method in hand, the
 -- nodes of the body in hand, and the size. Marks end at a name
 -- that is declared or used, at a bracket that opens and at the own token of an expression's node: what else stands between, as
 -- `class` or `this`, ends none.
 pub record Tally : Type 0 where
+  pub format : Format
   pub features : List (List ℕ)
   pub formula_nodes : ℕ
   pub marks : List (List ℕ)
@@ -55,6 +63,7 @@ pub record Tally : Type 0 where
 abbrev pub nothing : Tally
 nothing =
     record {
+      format = One;
       features = [];
       formula_nodes = 0;
       marks = [];
@@ -75,9 +84,11 @@ with_node t = record t { marks = []; nodes = t.nodes + 1; size = t.size + 1 }
 
 -- one more token, in this role
 abbrev pub counted : Tally → Role → Tally
+counted t format_line = record t { format = Two }
 counted t (feature_name w) = record t { features = t.features ++ w ∷ [] }
 counted t (mark_name w) = record t { marks = t.marks ++ w ∷ [] }
 counted t (formula_name w) = record t { formula_nodes = t.formula_nodes + 1 }
+counted t (known_name w) = t
 counted t (class_name w) =
     record t {
       marks = [];
@@ -99,6 +110,7 @@ counted t (sent_name w) = record t { marks = []; sends = t.sends + 1; size = t.s
 counted t (assigned_name w) = record t { marks = []; assigns = t.assigns + 1; size = t.size + 1 }
 counted t (var_name w) = with_node t
 counted t (used_name w) = record t { marks = [] }
+counted t sign = t
 counted t formula_node = record t { formula_nodes = t.formula_nodes + 1 }
 counted t (formula_opens n) = record t { formula_nodes = t.formula_nodes + 1 }
 counted t (opens n) = record t { marks = [] }
@@ -136,6 +148,10 @@ is_repeated names w = (is_among names w, Twice w)
 abbrev pub is_no_feature : Tally → List ℕ → Bool × FaultKind
 is_no_feature t w = (not (is_among t.features w), NoFeature w)
 
+-- marks have a `!` in format Two alone
+abbrev pub is_unsigned : Tally → Bool × FaultKind
+is_unsigned t = (not (is_two t.format), Unexpected)
+
 -- as many are there as may be, so one more is too many
 abbrev pub is_past : ℕ → ℕ → LimitKind → Bool × FaultKind
 is_past most count kind = (nat_le most count, Limit kind)
@@ -159,9 +175,11 @@ past_ctor count = is_past most_in_ctor count limit.Ctor
 
 -- Which rule or limit a token in this role breaks behind these, the first of them in the order of the faults of one token.
 abbrev pub broken_by : Tally → Role → Option FaultKind
+broken_by t format_line = None
 broken_by t (feature_name w) = first_of (too_long w ∷ is_repeated t.features w ∷ is_past most_features (length t.features) limit.Features ∷ [])
 broken_by t (mark_name w) = first_of (too_long w ∷ is_no_feature t w ∷ is_repeated t.marks w ∷ [])
 broken_by t (formula_name w) = first_of (too_long w ∷ is_no_feature t w ∷ past_formula t ∷ [])
+broken_by t (known_name w) = first_of (too_long w ∷ is_no_feature t w ∷ [])
 broken_by t (class_name w) =
     first_of (is_object w ∷ too_long w ∷ is_repeated t.classes w ∷ is_past most_classes (length t.classes) limit.Classes ∷ past_size t ∷ [])
 broken_by t (field_name w) =
@@ -175,6 +193,7 @@ broken_by t (sent_name w) = first_of (too_long w ∷ past_ctor t.sends ∷ past_
 broken_by t (assigned_name w) = first_of (too_long w ∷ past_ctor t.assigns ∷ past_size t ∷ [])
 broken_by t (var_name w) = first_of (too_long w ∷ past_nodes t ∷ past_size t ∷ [])
 broken_by t (used_name w) = first_of (too_long w ∷ [])
+broken_by t sign = first_of (is_unsigned t ∷ [])
 broken_by t formula_node = first_of (past_formula t ∷ [])
 broken_by t (formula_opens n) = first_of (past_formula t ∷ past_nest n ∷ [])
 broken_by t (opens n) = first_of (past_nest n ∷ [])

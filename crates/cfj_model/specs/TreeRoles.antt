@@ -3,10 +3,16 @@ use Rattle.std.specs.Prelude.{ℕ, List, [], ◌∷◌}
 use Rattle.cfj_model.specs.ExpressionGrammar.{roles_expr}
 use Rattle.cfj_model.specs.FormulaGrammar.{IffTree, roles_iff}
 use Rattle.cfj_model.specs.Grammar.{Declared, Named, MethodTree, ClassTree, Tree, constraint_word, features_word}
+use Rattle.cfj_model.specs.declared.feature_model.Format.{Format}
+use Rattle.cfj_model.specs.declared.feature_model.Format.TheVariants.{One, Two}
 use Rattle.cfj_model.specs.Marks.{in_order, each_behind, separated, roles_marks}
-use Rattle.cfj_model.specs.Roles.{Role, feature_name, class_name, field_name, method_name, param_name, method_param_name, sent_name, assigned_name, used_name, other_token}
+use Rattle.cfj_model.specs.Roles.{Role, format_line, feature_name, class_name, field_name, method_name, param_name, method_param_name, sent_name, assigned_name, used_name, other_token}
 
 -- the roles of a tree's tokens, one for each, and those that follow
+abbrev pub roles_format : Format → List Role → List Role
+roles_format One rest = rest
+roles_format Two rest = format_line ∷ other_token ∷ rest
+
 abbrev pub roles_feature : List ℕ → List Role → List Role
 roles_feature f rest = feature_name f ∷ rest
 
@@ -66,4 +72,5 @@ roles_class k rest =
     ∷ other_token ∷ used_name k.parent ∷ other_token ∷ in_order roles_field k.fields (roles_ctor k (in_order roles_method k.methods (other_token ∷ rest))))
 
 abbrev pub roles : Tree → List Role → List Role
-roles tree rest = roles_features tree.features (in_order roles_constraint tree.constraints (in_order roles_class tree.classes rest))
+roles tree rest =
+    roles_format tree.format (roles_features tree.features (in_order roles_constraint tree.constraints (in_order roles_class tree.classes rest)))

@@ -12,7 +12,7 @@ use std::alloc::{AllocError, Global};
 pub struct Field {
     /// How many fields of this name stand before it in its class.
     pub alt: u16,
-    /// The features it is marked with.
+    /// What it is marked with.
     pub colors: Colors,
     /// Its type.
     pub of: Name,
@@ -25,7 +25,7 @@ pub struct Field {
 pub struct Param {
     /// Its place in the list, which projection keeps.
     pub slot: u16,
-    /// The features it is marked with.
+    /// What it is marked with.
     pub colors: Colors,
     /// Its type.
     pub of: Name,
@@ -38,7 +38,7 @@ pub struct Param {
 pub struct Sent {
     /// Its place in the list, which projection keeps.
     pub slot: u16,
-    /// The features it is marked with.
+    /// What it is marked with.
     pub colors: Colors,
     /// The name.
     pub name: Name,
@@ -60,7 +60,7 @@ pub struct Constructor {
 pub struct Method {
     /// How many methods of this name stand before it in its class.
     pub alt: u16,
-    /// The features it is marked with.
+    /// What it is marked with.
     pub colors: Colors,
     /// The type of its result.
     pub result: Name,
@@ -77,7 +77,7 @@ pub struct Method {
 pub struct Class {
     /// Its name.
     pub name: Name,
-    /// The features it is marked with.
+    /// What it is marked with.
     pub colors: Colors,
     /// Its superclass.
     pub parent: Name,

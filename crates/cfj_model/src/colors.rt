@@ -1,62 +1,103 @@
 //! The features that nodes are marked with.
 
-ghost use Rattle.std.specs.Prelude.{◌≡◌, ℕ, ◌^◌, ◌<◌, ◌↔◌, IsTrue, IsBitSet, bit_or};
-ghost use Rattle.cfj_logic.specs.Selections.{has_bit, is_subset};
+ghost use Rattle.std.specs.Prelude.{◌≡◌, ◌<◌, ◌↔◌, IsTrue, IsBitSet};
+ghost use Rattle.cfj_model.specs.Coloring as spec;
+ghost use Rattle.cfj_model.specs.Projection.{is_present};
 
 use cfj_logic::{FeatureSet, Selection};
 use std::marker::Model;
 
-/// The features that a node is marked with.
+/// What a node is marked with: features that it wants, as `@A`, and features that it doesn't want, as `@!A`.
 ///
-/// Contracts see it as the number whose bits are its members.
+/// The marks of one node have no feature on both sides. Those of a node and of the nodes round it together may: then no variant keeps
+/// it. Contracts see it as the two sets.
 #[derive(Clone, Copy, Debug, PartialEq, Eq)]
 pub struct Colors {
-    features: FeatureSet,
+    on: FeatureSet,
+    off: FeatureSet,
 }
 
 impl Model for Colors {
-    ghost use Rattle.std.specs.Prelude.{ℕ};
+    ghost use Rattle.cfj_logic.specs.Sides.{Sides};
 
-    ghost Value = { ℕ };
+    ghost Value = { Sides };
 
-    ghost view = { λ c. c.features };
+    ghost view = { λ c. record { on = c.on; off = c.off } };
 
-    ghost inverse = { λ n. record { features = n } };
+    ghost inverse = { λ s. record { on = s.on; off = s.off } };
 }
 
 impl Colors {
-    /// No feature.
+    /// No mark.
     pub fn empty() -> Colors
-        ensures { result ≡ 0 }
+        ensures { result ≡ spec.no_colors }
     {
         Colors {
-            features: FeatureSet::empty(),
+            on: FeatureSet::empty(),
+            off: FeatureSet::empty(),
         }
     }
 
-    /// The set with this feature too.
-    pub fn with(self, feature: u8) -> Colors
-        requires { feature < 128 }
-        ensures { result ≡ bit_or self (2 ^ feature) }
+    /// Whether there is no mark.
+    pub fn is_empty(&self) -> bool
+        ensures { result ≡ spec.is_unmarked self.now }
     {
-        Colors {
-            features: self.features.with(feature),
+        self.on.is_empty() && self.off.is_empty()
+    }
+
+    /// These marks and one more: of a feature that isn't wanted, where it is `off`, else of one that is.
+    pub fn with(self, feature: u8, off: bool) -> Colors
+        requires { feature < 128 }
+        ensures { result ≡ spec.with_mark off feature self }
+    {
+        if off {
+            Colors {
+                on: self.on,
+                off: self.off.with(feature),
+            }
+        } else {
+            Colors {
+                on: self.on.with(feature),
+                off: self.off,
+            }
         }
     }
 
-    /// Whether this feature is in the set.
-    pub fn has(&self, feature: u8) -> bool
+    /// Whether this feature is marked so.
+    pub fn has(&self, feature: u8, off: bool) -> bool
         requires { feature < 128 }
-        ensures member { result ≡ has_bit self.now feature }
-        ensures bit { IsTrue result ↔ IsBitSet self.now feature }
+        ensures { result ≡ spec.has_mark off feature self.now }
     {
-        self.features.has(feature)
+        if off {
+            self.off.has(feature)
+        } else {
+            self.on.has(feature)
+        }
     }
 
-    /// Whether all of these features are selected, so that a variant keeps what is marked with them.
+    /// Whether this feature is marked, as one that is wanted or as one that isn't.
+    pub fn is_marked(&self, feature: u8) -> bool
+        requires { feature < 128 }
+        ensures { result ≡ spec.is_marked feature self.now }
+    {
+        self.on.has(feature) || self.off.has(feature)
+    }
+
+    /// The marks of both: those of a node and of the nodes round it are its presence.
+    pub fn union(self, other: Colors) -> Colors
+        ensures { result ≡ spec.union self other }
+    {
+        Colors {
+            on: self.on.union(other.on),
+            off: self.off.union(other.off),
+        }
+    }
+
+    /// Whether every mark holds under a selection, so that a variant keeps what is marked so.
     pub fn is_kept_by(&self, selection: &Selection) -> bool
-        ensures { result ≡ is_subset self.now selection.now.on }
+        ensures { result ≡ is_present selection.now self.now }
     {
-        self.features.is_subset(&selection.selected())
+        let selected = selection.selected();
+        self.on.is_subset(&selected) && self.off.is_disjoint(&selected)
     }
 }

@@ -46,7 +46,7 @@ pub enum Expr {
 #[cycle(expr)]
 #[derive(Debug, Drop)]
 pub struct Arg {
-    /// The features it is marked with.
+    /// What it is marked with.
     pub colors: Colors,
     /// The expression.
     pub expr: Expr,

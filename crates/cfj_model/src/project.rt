@@ -15,7 +15,8 @@ use std::sync::Arc;
 /// A product line: a feature model, and classes whose nodes may be marked with its features.
 ///
 /// A project that is made of another shares with it what didn't change. Its type keeps the limits, unique names of features, of classes
-/// and of the parameters of a method, known features, that no class is named `Object`, and that slots rise, as do the alts of the
+/// and of the parameters of a method, known features, that no node wants a feature and doesn't want it too, that in format one each mark
+/// wants its feature, that no class is named `Object`, and that slots rise, as do the alts of the
 /// members of one name.
 #[derive(Debug, Drop)]
 pub struct Project {

@@ -1,7 +1,9 @@
 //! Texts that contracts see as their bytes.
 
-ghost use Rattle.std.specs.Prelude.{◌≡◌, string_bytes};
+ghost use Rattle.std.specs.Prelude.{◌≡◌, IfOk, string_bytes};
 
+use crate::copied::Copied;
+use std::alloc::{AllocError, Global};
 use std::marker::Model;
 
 /// A `String` that contracts see as its text.
@@ -31,5 +33,23 @@ impl Text {
         ensures { result.now ≡ self.now }
     {
         self.text.as_str()
+    }
+
+    /// An equal text in memory of its own.
+    ///
+    /// # Errors
+    ///
+    /// There is no memory for it.
+    pub fn copy(&self, alloc: Global) -> Result<Text, AllocError>
+        ensures { IfOk result (λ text. text ≡ self.now) }
+    {
+        let text = String::from_str(alloc, self.text.as_str())?;
+        Ok(Text { text })
+    }
+}
+
+impl Copied for Text {
+    fn copied(&self, alloc: Global) -> Result<Text, AllocError> {
+        self.copy(alloc)
     }
 }

@@ -1,7 +1,8 @@
 -- The text of a project, and what it is.
 use Rattle.std.specs.Prelude.{◌≡◌, ℕ, ◌<◌, ◌≤◌, List, length, Some, None}
 use Rattle.cfj_model.specs.declared.fault.FaultKind.{FaultKind}
-use Rattle.cfj_model.specs.Faults.{IsTextOf, IsFirstFault, projects}
+use Rattle.cfj_model.specs.Faults.{IsFirstFault}
+use Rattle.cfj_model.specs.Languages.{IsTextOf, projects}
 use Rattle.cfj_model.specs.ProductLines.{ProductLine}
 use Rattle.cide_io.specs.Known.{Known}
 

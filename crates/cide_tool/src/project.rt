@@ -1,6 +1,7 @@
 //! The project that a command reads.
 ghost use Rattle.std.specs.Prelude.{◌≡◌, ℕ, ◌≤◌, List, Some, Err, IfOk, IfErr, length, string_bytes};
-ghost use Rattle.cfj_model.specs.Faults.{IsFirstFault, IsTextOf, projects};
+ghost use Rattle.cfj_model.specs.Faults.{IsFirstFault};
+ghost use Rattle.cfj_model.specs.Languages.{IsTextOf, projects};
 ghost use Rattle.cide_io.specs.Faults.{Rose};
 ghost use Rattle.cide_io.specs.Known.{Known};
 ghost use Rattle.cide_io.specs.Changes.{OnlyReads};

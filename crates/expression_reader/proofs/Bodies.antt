@@ -9,7 +9,8 @@ use Rattle.cfj_model.specs.declared.expr.Expr.{Expr}
 use Rattle.cfj_model.specs.declared.expr.Expr.TheFolds.{fold-Expr}
 use Rattle.cfj_model.specs.declared.expr.Expr.TheVariants as e
 use Rattle.cfj_words.specs.Names.{is_name, is_short_identifier}
-use Rattle.cfj_model.specs.Expressions.{of_arg, node_count_step, node_count, slots_step, slots, Nesting, receiver_depth, greatest, nesting_step, nesting_of_arg, nest, are_known, is_named_step, is_named_arg, is_named}
+use Rattle.cfj_model.specs.Coloring.{are_known}
+use Rattle.cfj_model.specs.Expressions.{of_arg, node_count_step, node_count, slots_step, slots, Nesting, receiver_depth, greatest, nesting_step, nesting_of_arg, nest, is_named_step, is_named_arg, is_named}
 use Rattle.cfj_model.specs.ProductLines.{most_nest, most_nodes, rise_from, is_body}
 use Rattle.cfj_model.proofs.ExprCases.{fold_var, fold_get, fold_call, fold_new, fold_cast}
 

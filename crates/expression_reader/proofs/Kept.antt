@@ -12,7 +12,8 @@ use Rattle.cfj_model.specs.declared.fault.FaultKind.{FaultKind}
 use Rattle.cfj_model.specs.declared.fault.FaultKind.TheVariants.{Limit}
 use Rattle.cfj_model.specs.declared.fault.LimitKind.TheVariants as limit
 use Rattle.cfj_words.specs.Names.{is_identifier, is_short_identifier}
-use Rattle.cfj_model.specs.Expressions.{are_known, node_count}
+use Rattle.cfj_model.specs.Coloring.{are_known}
+use Rattle.cfj_model.specs.Expressions.{node_count}
 use Rattle.cfj_model.specs.Marks.{spell_marks, roles_marks, color_at, color_of, colored, colors_of}
 use Rattle.cfj_model.specs.ProductLines.{most_nest, most_nodes, most_size}
 use Rattle.cfj_words.specs.Tokens.{Token, Id, ThisWord, OpenParen, CloseParen, Dot}

@@ -12,7 +12,8 @@ use Rattle.cfj_model.specs.declared.class.Method.{Method}
 use Rattle.cfj_model.specs.declared.class.Class.{Class}
 use Rattle.cfj_model.specs.declared.expr.Expr.{Expr}
 use Rattle.cfj_model.specs.declared.feature_model.FeatureModel.{FeatureModel}
-use Rattle.cfj_model.specs.Expressions.{are_known, is_named, nest, node_count, slots}
+use Rattle.cfj_model.specs.Coloring.{are_known}
+use Rattle.cfj_model.specs.Expressions.{is_named, nest, node_count, slots}
 use Rattle.cfj_model.specs.Members.{field_alts_rise, method_alts_rise}
 use Rattle.cfj_model.specs.ProductLines.{ProductLine, IsProject, IsPlain, object, most_fields, most_in_ctor, most_methods, most_params, most_nodes, most_nest, most_classes, most_size, are_distinct, rise_from, is_field, is_param, is_sent, are_fields, are_params, are_sents, is_ctor, is_body, is_method, are_methods, is_class, method_size, class_size, is_plain_method, is_plain_class}
 use Rattle.cfj_model.specs.Projection.{presence_of, is_present, bare_field, bare_param, bare_sent, present_fields, present_params, present_sents, present_methods, projected_ctor, projected_expr, projected_method, projected_class, projected}

@@ -2,7 +2,7 @@
 use Rattle.std.proofs.Common.{◌≡◌, ℕ, suc, true, false, List, [], ◌∷◌, ◌++◌, length, Some, None, refl, sym, ◌∙◌, ap, subst, arith}
 use Rattle.std.proofs.lemmas.Option.{same_Some}
 use Rattle.cfj_model.specs.declared.class.Class.{Class}
-use Rattle.cfj_model.specs.Faults.{single_classes}
+use Rattle.cfj_model.specs.Languages.{single_classes}
 use Rattle.cfj_model.specs.Grammar.{ClassTree, spell_class, value_class}
 use Rattle.cfj_model.specs.Marks.{in_order, spell_marks}
 use Rattle.cfj_model.specs.Roles.{Role, other_token}

@@ -10,7 +10,7 @@ use Rattle.cfj_model.specs.Roles.{Role, used_name, other_token, are_settled}
 use Rattle.cfj_words.specs.Tokens.{Token, Id, OpenParen, CloseBrace, End}
 use Rattle.cfj_model.specs.TreeRoles.{roles_ctor}
 use Rattle.fj_symbols.specs.Views.{are_read}
-use Rattle.fj_parser.specs.Languages.{CtorTree, in_class, constructors}
+use Rattle.cfj_model.specs.PartLanguages.{CtorTree, in_class, constructors}
 use Rattle.fj_parser.specs.Laws.{Closes, GoesByName, IsPlainLanguage, Reads}
 use Rattle.fj_parser.specs.declared.goal.Goal.TheVariants as goal
 use Rattle.fj_machine.specs.declared.mode.Mode.{Mode}

@@ -13,7 +13,7 @@ use Rattle.fj_machine.specs.declared.mode.Mode.TheVariants.{InMembers, AfterAt, 
 use Rattle.fj_machine.specs.declared.mode.Node.TheVariants as node
 use Rattle.fj_machine.specs.declared.mode.Owner.TheVariants as owner
 use Rattle.fj_parser.specs.Goals.{step_for, reader_for}
-use Rattle.fj_parser.specs.Languages.{CtorTree, in_class}
+use Rattle.cfj_model.specs.PartLanguages.{CtorTree, in_class}
 use Rattle.fj_machine.specs.Machine.{unnamed, State, behind, with_class, step_in, run}
 use Rattle.fj_machine.specs.Readers.{Run, Reader, with_roles, then_run, run_of}
 use Rattle.fj_parser.proofs.Complete.{same_name, params_run, body_run, behind_ctor}

@@ -2,7 +2,8 @@
 use Rattle.std.proofs.Common.{◌≡◌, ℕ, List, Some, sym, subst}
 use Rattle.std.specs.Str.{chars, IsUtf8}
 use Rattle.cfj_model.specs.declared.fault.FaultKind.{FaultKind}
-use Rattle.cfj_model.specs.Faults.{Language, IsTextOf, IsFirstFault, lexical_fault}
+use Rattle.cfj_model.specs.Faults.{IsFirstFault, lexical_fault}
+use Rattle.cfj_model.specs.Languages.{Language, IsTextOf}
 use Rattle.cfj_words.specs.Lexemes.{next_lexeme}
 use Rattle.cfj_model.specs.Roles.{Tally}
 use Rattle.cfj_words.specs.Tokens.{place_of}

@@ -3,7 +3,8 @@ use Rattle.std.proofs.Common.{◌≡◌, ℕ, List, Result, Ok, Err, IfOk, refl}
 use Rattle.cfj_model.specs.declared.fault.FaultKind.{FaultKind}
 use Rattle.cfj_model.specs.declared.fault.ParseFault.{ParseFault}
 use Rattle.cfj_model.specs.declared.fault.ParseFault.TheVariants.{At, NoMemory}
-use Rattle.cfj_model.specs.Faults.{Language, IsTextOf, IsFirstFault}
+use Rattle.cfj_model.specs.Faults.{IsFirstFault}
+use Rattle.cfj_model.specs.Languages.{Language, IsTextOf}
 use Rattle.fj_parser.specs.Answers.{IsReadAs, IsRefusedAs}
 use Rattle.fj_parser.specs.Laws.{Reads}
 use Rattle.fj_machine.specs.Readers.{Reader}

@@ -22,7 +22,7 @@ use Rattle.expression_reader.proofs.Finishing.{has_expression, waited_first}
 use Rattle.expression_reader.proofs.Law as expression_law
 use Rattle.expression_reader.proofs.Sound as expression_sound
 use Rattle.fj_parser.specs.Goals.{start_for, step_for, takes_name_for, reader_for}
-use Rattle.fj_parser.specs.Languages.{UnmarkedTree, expressions}
+use Rattle.cfj_model.specs.PartLanguages.{UnmarkedTree, expressions}
 use Rattle.fj_parser.specs.Laws.{Settles, alike, Closes, GoesByName, Reads}
 use Rattle.fj_machine.specs.Machine.{unnamed, State, method_of, with_method, after_expression, in_expression, step_in, emitted, pending, pending_in}
 use Rattle.fj_machine.specs.Readers.{Reader, Run, then_run, run_of}

@@ -9,7 +9,8 @@ use Rattle.cfj_model.specs.declared.fault.FaultKind.TheVariants as fault
 use Rattle.cfj_words.specs.Lexemes.{Lexeme, Lexed, Found, AtEnd, NoToken, NoClose, next_lexeme}
 use Rattle.cfj_words.specs.Tokens.{Token, End, token_of, token_seen, Takes, place_of}
 use Rattle.cfj_model.specs.Roles.{Role, other_token, Tally, counted, tallied, broken_by, AreWithin}
-use Rattle.cfj_model.specs.Faults.{Language, IsTextOf, Begins, CanGoOn, IsMisplaced, reserved, other, no_name, Front, lexical_fault, IsLongest, before_no_lexeme, before_misplaced, before_the_end, StandsBehind, IsFirstFault, no_text, breaking, no_lexeme, no_place}
+use Rattle.cfj_model.specs.Faults.{Begins, CanGoOn, IsMisplaced, reserved, other, no_name, Front, lexical_fault, IsLongest, before_no_lexeme, before_misplaced, before_the_end, StandsBehind, IsFirstFault, no_text, breaking, no_lexeme, no_place}
+use Rattle.cfj_model.specs.Languages.{Language, IsTextOf}
 use Rattle.fj_parser.specs.Laws.{Reads}
 use Rattle.fj_machine.specs.Readers.{Reader, run_of}
 use Rattle.fj_parser.proofs.Readers.{run_more, reads_begin, ReadTo, begins_reads, cannot_go_on, can_go_on, begun, same_value}

@@ -15,7 +15,7 @@ use Rattle.expression_reader.specs.declared.mode.Mode.TheVariants as at
 use Rattle.fj_parser.specs.Accepting.{IsAccepted}
 use Rattle.fj_parser.specs.Counting.{Place, before_class, before_method, before_body, in_body, place_of, in_hand, IsEmptyAt, IsCounted, Counted}
 use Rattle.fj_parser.specs.Goals.{start_for, begins_member, ends, class_or_end, field_or_end, method_or_end, member_or_end, step_for, reader_for}
-use Rattle.fj_parser.specs.Languages.{with_features}
+use Rattle.cfj_model.specs.Languages.{with_features}
 use Rattle.fj_machine.specs.Machine.{State, emitted, step_in, token_role}
 use Rattle.fj_parser.specs.declared.goal.Goal.{Goal}
 use Rattle.fj_parser.specs.declared.goal.Goal.TheVariants as goal

@@ -9,7 +9,7 @@ use Rattle.cfj_model.specs.ProductLines.{is_body}
 use Rattle.cfj_model.specs.Roles.{nothing, AreWithin}
 use Rattle.fj_symbols.specs.Views.{are_read}
 use Rattle.expression_reader.proofs.Kept.{body_kept}
-use Rattle.fj_parser.specs.Languages.{IsUnmarked, IsStartUnmarked, AreStepsUnmarked, AreUnmarked, AreMoreUnmarked}
+use Rattle.cfj_model.specs.PartLanguages.{IsUnmarked, IsStartUnmarked, AreStepsUnmarked, AreUnmarked, AreMoreUnmarked}
 
 -- an argument without marks
 abbrev plain_arg : Expr → Arg

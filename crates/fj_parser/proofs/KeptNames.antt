@@ -12,7 +12,7 @@ use Rattle.cfj_model.specs.declared.fault.LimitKind.TheVariants as limit
 use Rattle.cfj_words.specs.Names.{is_among, is_identifier, is_short_identifier}
 use Rattle.cfj_words.specs.Tokens.{Token, Comma}
 use Rattle.cfj_model.specs.ProductLines.{most_size}
-use Rattle.cfj_model.specs.Expressions.{are_known}
+use Rattle.cfj_model.specs.Coloring.{are_known}
 use Rattle.cfj_model.specs.Marks.{each_behind, separated, spell_marks, roles_marks, color_at, color_of, colored, colors_of}
 use Rattle.cfj_model.specs.Roles.{Role, used_name, other_token, Tally, first_of, is_long, broken_by, AreWithin}
 use Rattle.fj_symbols.specs.Views.{are_read}

@@ -10,8 +10,9 @@ use Rattle.cfj_model.specs.TreeRoles.{roles, roles_ctor, roles_field, roles_meth
 use Rattle.cfj_words.specs.Names.{is_identifier}
 use Rattle.cfj_words.specs.Tokens.{Id, Semicolon}
 use Rattle.fj_symbols.specs.Views.{are_read}
-use Rattle.fj_parser.specs.Languages.{CtorTree, MemberTree, ModelTree, a_field, a_method, in_class, roles_member, spell_member, value_member, with_features, without_classes}
-use Rattle.fj_parser.specs.Parts.{IsModel, is_member}
+use Rattle.cfj_model.specs.Languages.{with_features}
+use Rattle.cfj_model.specs.PartLanguages.{CtorTree, MemberTree, ModelTree, a_field, a_method, in_class, roles_member, spell_member, value_member, without_classes}
+use Rattle.cfj_model.specs.Parts.{IsModel, is_member}
 use Rattle.fj_parser.proofs.Kept.{kept}
 use Rattle.fj_parser.proofs.KeptMembers.{fields_kept, ctor_kept, methods_kept}
 use Rattle.fj_parser.proofs.KeptNames.{CountFits, MarksKept, count_fits, known, marks_kept, short, used_short}

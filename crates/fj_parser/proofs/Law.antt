@@ -1,7 +1,7 @@
 -- The laws of the machine: it reads the texts of projects and no others, and each state can be completed.
 use Rattle.std.proofs.Common.{◌≡◌, ℕ, Bool, true, false, List, [], ◌∷◌, ◌++◌, Option, Some, None, refl, sym, ◌∙◌, ap, subst, append_assoc}
 use Rattle.std.proofs.lemmas.Option.{none-some, same_Some}
-use Rattle.cfj_model.specs.Faults.{projects}
+use Rattle.cfj_model.specs.Languages.{projects}
 use Rattle.cfj_model.specs.FormulaGrammar.{IffTree}
 use Rattle.cfj_model.specs.Grammar.{ClassTree, Tree, spell}
 use Rattle.cfj_model.specs.Roles.{Role}

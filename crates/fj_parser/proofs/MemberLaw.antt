@@ -15,7 +15,7 @@ use Rattle.fj_parser.specs.declared.goal.Goal.TheVariants as goal
 use Rattle.fj_machine.specs.declared.mode.Mode.{Mode}
 use Rattle.fj_machine.specs.declared.mode.Mode.TheVariants.{InMethods, AfterMethodName, AtEnd}
 use Rattle.fj_parser.specs.Goals.{none_yet, start_for, method_or_end, member_or_end, step_for, takes_name_for, reader_for}
-use Rattle.fj_parser.specs.Languages.{MemberTree, a_field, a_method, spell_member, roles_member, single_members}
+use Rattle.cfj_model.specs.PartLanguages.{MemberTree, a_field, a_method, spell_member, roles_member, single_members}
 use Rattle.fj_parser.specs.Laws.{Closes, GoesByName, IsPlainLanguage, Reads}
 use Rattle.fj_machine.specs.Machine.{unnamed, State, behind, step_in, emitted, pending, run, with_single_field}
 use Rattle.fj_machine.specs.Readers.{Run, then_run, run_of}

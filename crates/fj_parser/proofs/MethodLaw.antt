@@ -14,7 +14,7 @@ use Rattle.fj_machine.specs.declared.mode.Node.TheVariants as node
 use Rattle.fj_machine.specs.declared.mode.Mode.{Mode}
 use Rattle.fj_machine.specs.declared.mode.Mode.TheVariants.{AfterMark, InMethods, AtEnd}
 use Rattle.fj_parser.specs.Goals.{none_yet, start_for, method_or_end, step_for, takes_name_for, reader_for}
-use Rattle.fj_parser.specs.Languages.{single_methods}
+use Rattle.cfj_model.specs.PartLanguages.{single_methods}
 use Rattle.fj_parser.specs.Laws.{Closes, GoesByName, IsPlainLanguage, Reads}
 use Rattle.fj_machine.specs.Machine.{unnamed, State, behind, step_in, emitted, pending, run}
 use Rattle.fj_machine.specs.Readers.{Run, then_run, run_of}

@@ -17,7 +17,7 @@ use Rattle.formula_reader.specs.declared.mode.Mode.TheVariants.{Want, After, Don
 use Rattle.formula_reader.proofs.Law.{completes}
 use Rattle.formula_reader.proofs.Leads.{Leads, last, more, run_leads}
 use Rattle.fj_parser.specs.Goals.{step_for, reader_for}
-use Rattle.fj_parser.specs.Languages.{ModelTree, without_classes, models}
+use Rattle.cfj_model.specs.PartLanguages.{ModelTree, without_classes, models}
 use Rattle.fj_parser.specs.Laws.{Closes, GoesByName, Reads}
 use Rattle.fj_machine.specs.Machine.{unnamed, State, start, after_formula, in_formula, opens_constraint, step_in, step, emitted, pending, pending_in, run}
 use Rattle.fj_machine.specs.Machine as machine

@@ -4,7 +4,7 @@ use Rattle.std.proofs.lemmas.Option.{none-some, same_Some}
 use Rattle.cfj_model.specs.Roles.{Role, used_name, other_token, are_settled}
 use Rattle.cfj_words.specs.Tokens.{Token, Id, End}
 use Rattle.fj_parser.specs.Goals.{start_for, step_for, takes_name_for, reader_for}
-use Rattle.fj_parser.specs.Languages.{names}
+use Rattle.cfj_model.specs.PartLanguages.{names}
 use Rattle.fj_parser.specs.Laws.{Closes, GoesByName, Reads}
 use Rattle.fj_machine.specs.Machine.{unnamed, State, emitted, pending}
 use Rattle.fj_machine.specs.Readers.{Reader, Run, run_of}

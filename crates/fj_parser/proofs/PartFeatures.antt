@@ -11,7 +11,7 @@ use Rattle.cfj_model.specs.declared.fault.LimitKind.TheVariants as limit
 use Rattle.cfj_words.specs.Names.{is_among, is_identifier, is_name, is_short_identifier, most_name_bytes}
 use Rattle.cfj_model.specs.ProductLines.{are_new, are_distinct, most_features}
 use Rattle.cfj_model.specs.Roles.{feature_name, broken_by, is_long, first_of}
-use Rattle.fj_parser.specs.Languages.{with_features}
+use Rattle.cfj_model.specs.Languages.{with_features}
 
 -- of names of which each is new, one isn't among those before it
 new_at : (before ns : List (List ℕ)) (i : ℕ) (w : List ℕ) → are_new before ns ≡ true → slice_get ns i ≡ Some w → is_among (before ++ take i ns) w ≡ false

@@ -2,11 +2,12 @@
 use Rattle.std.proofs.Common.{◌≡◌, ℕ, List, sym, subst}
 use Rattle.std.specs.Str.{IsUtf8}
 use Rattle.cfj_model.specs.declared.fault.FaultKind.{FaultKind}
-use Rattle.cfj_model.specs.Faults.{Language, IsTextOf, IsFirstFault}
+use Rattle.cfj_model.specs.Faults.{IsFirstFault}
+use Rattle.cfj_model.specs.Languages.{Language, IsTextOf}
 use Rattle.fj_parser.specs.Ending.{IsReadTo, IsStopped}
 use Rattle.fj_parser.specs.Goals.{reader_for}
 use Rattle.fj_parser.specs.GoalViews.{met_of, reader_of, IsPart}
-use Rattle.fj_parser.specs.Languages.{with_features}
+use Rattle.cfj_model.specs.Languages.{with_features}
 use Rattle.fj_parser.specs.Laws.{Reads}
 use Rattle.fj_machine.specs.Machine.{State}
 use Rattle.fj_machine.specs.Readers.{SettlesEach}

@@ -5,7 +5,8 @@ use Rattle.std.proofs.lemmas.Option.{none-some, same_Some}
 use Rattle.std.specs.List.{slice_get}
 use Rattle.std.specs.Str.{chars, IsUtf8}
 use Rattle.cfj_model.specs.declared.fault.FaultKind.{FaultKind}
-use Rattle.cfj_model.specs.Faults.{Language, IsFirstFault, StandsBehind, lexical_fault}
+use Rattle.cfj_model.specs.Faults.{IsFirstFault, StandsBehind, lexical_fault}
+use Rattle.cfj_model.specs.Languages.{Language}
 use Rattle.cfj_words.specs.Lexemes.{Lexeme, Found, next_lexeme}
 use Rattle.cfj_model.specs.Roles.{Tally}
 use Rattle.cfj_words.specs.Tokens.{Token, token_of, token_seen, place_of}

@@ -4,7 +4,8 @@ use Rattle.std.proofs.lemmas.List.{take-append-le, take_all}
 use Rattle.std.proofs.lemmas.Option.{none-some, some_pair_parts}
 use Rattle.std.specs.Str.{chars, IsUtf8}
 use Rattle.cfj_model.specs.declared.fault.FaultKind.{FaultKind}
-use Rattle.cfj_model.specs.Faults.{Language, IsTextOf, Begins, Front, IsLongest, before_no_lexeme, before_misplaced, before_the_end, StandsBehind, IsFirstFault, breaking, no_lexeme, no_place, lexical_fault}
+use Rattle.cfj_model.specs.Faults.{Begins, Front, IsLongest, before_no_lexeme, before_misplaced, before_the_end, StandsBehind, IsFirstFault, breaking, no_lexeme, no_place, lexical_fault}
+use Rattle.cfj_model.specs.Languages.{Language, IsTextOf}
 use Rattle.cfj_words.specs.Lexemes.{Lexeme, Lexed, Found, AtEnd, NoToken, NoClose, next_lexeme}
 use Rattle.cfj_model.specs.Roles.{Role, other_token, Tally, counted, tallied, broken_by, AreWithin}
 use Rattle.cfj_words.specs.Tokens.{Token, End, Takes, token_of, token_seen, place_of}

@@ -6,7 +6,8 @@ use Rattle.std.proofs.lemmas.Option.{none-some, same_Some}
 use Rattle.cfj_words.specs.Tokens.{Token, Id, End, is_reserved_word}
 use Rattle.cfj_model.specs.Roles.{Role, casts, other_token, is_settled, are_settled}
 use Rattle.cfj_model.specs.declared.fault.FaultKind.TheVariants as fault
-use Rattle.cfj_model.specs.Faults.{Language, Begins, CanGoOn, IsMisplaced, reserved, other, no_name}
+use Rattle.cfj_model.specs.Faults.{Begins, CanGoOn, IsMisplaced, reserved, other, no_name}
+use Rattle.cfj_model.specs.Languages.{Language}
 use Rattle.fj_symbols.specs.Views.{are_read}
 use Rattle.fj_parser.specs.Laws.{Settles, alike, as_cast, Closes, GoesByName, Reads}
 use Rattle.fj_machine.specs.Readers.{Reader, SettlesEach, Run, with_roles, then_run, run_of, misplaced_kind}

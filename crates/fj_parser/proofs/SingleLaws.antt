@@ -2,7 +2,7 @@
 use Rattle.std.proofs.Common.{◌≡◌, ℕ, suc, ◌+◌, true, false, List, [], ◌∷◌, ◌++◌, length, Option, Some, None, refl, sym, ◌∙◌, ap, arith, append_assoc}
 use Rattle.std.proofs.lemmas.List.{append-nil}
 use Rattle.std.proofs.lemmas.Option.{none-some, same_Some}
-use Rattle.cfj_model.specs.Faults.{Language}
+use Rattle.cfj_model.specs.Languages.{Language}
 use Rattle.cfj_model.specs.Roles.{Role, other_token, are_settled}
 use Rattle.cfj_words.specs.Tokens.{Token, Id, End}
 use Rattle.fj_symbols.specs.Views.{are_read}

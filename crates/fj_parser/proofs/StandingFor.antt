@@ -1,11 +1,11 @@
 -- A reader of a language reads the same texts to values that are made of its own.
 use Rattle.std.proofs.Common.{List, ap}
-use Rattle.cfj_model.specs.Faults.{Language}
+use Rattle.cfj_model.specs.Languages.{Language}
 use Rattle.cfj_model.specs.Roles.{Role}
 use Rattle.cfj_words.specs.Tokens.{Token}
 use Rattle.fj_parser.specs.Laws.{Closes, Reads}
 use Rattle.fj_machine.specs.Readers.{Reader}
-use Rattle.fj_parser.specs.Wanted.{standing_for}
+use Rattle.cfj_model.specs.PartLanguages.{standing_for}
 
 module _ {V W : Type 0} (f : V → W) (l : Language V) (m : Reader) (laws : Reads l m) where
   pub closes_so : (ts : List Token) (rs waiting : List Role) → Closes l ts rs waiting → Closes (standing_for f l) ts rs waiting

@@ -8,19 +8,19 @@ use Rattle.cfj_model.specs.declared.expr.Expr.{Expr}
 use Rattle.cfj_model.specs.declared.feature_model.FeatureModel.{FeatureModel}
 use Rattle.cfj_model.specs.declared.member.Member.{Member}
 use Rattle.cfj_model.specs.Expressions.{slots}
-use Rattle.cfj_model.specs.Faults.{Language, IsTextOf, projects, single_classes}
+use Rattle.cfj_model.specs.Languages.{Language, IsTextOf, projects, single_classes}
 use Rattle.cfj_model.specs.Grammar.{spell, spell_class}
 use Rattle.cfj_model.specs.Numbered.{run_from, is_numbered_ctor}
 use Rattle.cfj_model.specs.ProductLines.{ProductLine, IsProject, is_body, is_class, is_ctor, class_size, most_size}
 use Rattle.cfj_model.specs.Roles.{nothing}
 use Rattle.cfj_words.specs.Names.{is_identifier, is_short_identifier}
 use Rattle.fj_symbols.specs.Views.{are_read}
-use Rattle.print_law.proofs.Numbering.{body_numbered, ctor_numbered, method_numbered}
-use Rattle.fj_parser.specs.Languages.{MemberTree, a_field, a_method, constructors, expressions, in_class, models, names, value_member}
-use Rattle.fj_parser.specs.Parts.{IsModel, is_member, is_numbered_member}
-use Rattle.fj_parser.specs.Wanted.{members_wanted}
-use Rattle.fj_parser.specs.declared.want.Want.{Want}
-use Rattle.fj_parser.specs.declared.want.Want.TheVariants.{Any, Field, Method}
+use Rattle.cfj_model.proofs.Numbering.{body_numbered, ctor_numbered, method_numbered}
+use Rattle.cfj_model.specs.PartLanguages.{MemberTree, a_field, a_method, constructors, expressions, in_class, models, names, value_member}
+use Rattle.cfj_model.specs.Parts.{IsModel, is_member, is_numbered_member}
+use Rattle.cfj_model.specs.PartLanguages.{members_wanted}
+use Rattle.cfj_model.specs.declared.want.Want.{Want}
+use Rattle.cfj_model.specs.declared.want.Want.TheVariants.{Any, Field, Method}
 use Rattle.fj_parser.proofs.Kept.{kept, kept_class}
 use Rattle.fj_parser.proofs.KeptExpressions.{kept_expression}
 use Rattle.fj_parser.proofs.KeptNames.{used_short}

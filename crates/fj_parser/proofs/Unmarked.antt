@@ -4,7 +4,7 @@ use Rattle.std.proofs.lemmas.Bool.{and_parts}
 use Rattle.cfj_model.specs.ExpressionGrammar.{ExprTree, cast, chain, StartTree, variable, this_word, made, bracket, StepsTree, stop, get, call, ArgsTree, no_args, first_arg, MoreArgsTree, no_more, next_arg, spell_expr, spell_start, spell_steps, spell_args, spell_more_args}
 use Rattle.cfj_words.specs.Tokens.{Token, CloseParen, Semicolon, At, End}
 use Rattle.expression_reader.proofs.Completing.{are_unmarked}
-use Rattle.fj_parser.specs.Languages.{IsUnmarked, IsStartUnmarked, AreStepsUnmarked, AreUnmarked, AreMoreUnmarked}
+use Rattle.cfj_model.specs.PartLanguages.{IsUnmarked, IsStartUnmarked, AreStepsUnmarked, AreUnmarked, AreMoreUnmarked}
 
 -- a token that stands inside an expression without marks
 abbrev pub is_inner : Token → Bool

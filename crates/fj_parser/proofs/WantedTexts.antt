@@ -5,15 +5,16 @@ use Rattle.cfj_model.specs.declared.fault.ParseFault.{ParseFault}
 use Rattle.cfj_model.specs.declared.fault.ParseFault.TheVariants.{At}
 use Rattle.cfj_model.specs.declared.member.Member.{Member}
 use Rattle.cfj_model.specs.declared.member.Member.TheVariants as member
-use Rattle.cfj_model.specs.Faults.{IsTextOf, IsFirstFault}
+use Rattle.cfj_model.specs.Faults.{IsFirstFault}
+use Rattle.cfj_model.specs.Languages.{IsTextOf}
 use Rattle.fj_parser.specs.Answers.{IsReadAs, IsRefusedAs}
 use Rattle.fj_parser.specs.Goals.{reader_for}
-use Rattle.fj_parser.specs.Languages.{single_fields, single_methods, single_members}
+use Rattle.cfj_model.specs.PartLanguages.{single_fields, single_methods, single_members}
 use Rattle.fj_machine.specs.Machine.{unnamed}
-use Rattle.fj_parser.specs.Wanted.{members_wanted, standing_for}
+use Rattle.cfj_model.specs.PartLanguages.{members_wanted, standing_for}
 use Rattle.fj_parser.specs.declared.goal.Goal.TheVariants as goal
-use Rattle.fj_parser.specs.declared.want.Want.{Want}
-use Rattle.fj_parser.specs.declared.want.Want.TheVariants.{Any, Field, Method}
+use Rattle.cfj_model.specs.declared.want.Want.{Want}
+use Rattle.cfj_model.specs.declared.want.Want.TheVariants.{Any, Field, Method}
 use Rattle.fj_parser.proofs.Exact.{only_read, only_told}
 use Rattle.fj_parser.proofs.FieldLaw.{field_laws}
 use Rattle.fj_parser.proofs.MemberLaw.{member_laws}

@@ -4,7 +4,7 @@ use Rattle.std.specs.Prelude.{◌≡◌, ℕ, Bool, true, false, List, Some, Non
 use Rattle.cfj_words.specs.Tokens.{Token, Semicolon, End}
 use Rattle.cfj_model.specs.Roles.{Tally}
 use Rattle.fj_parser.specs.Goals.{step_for, reader_for}
-use Rattle.fj_parser.specs.Languages.{with_features}
+use Rattle.cfj_model.specs.Languages.{with_features}
 use Rattle.fj_machine.specs.Machine.{State, step_in, to, with_single_field}
 use Rattle.fj_parser.specs.declared.goal.Goal.{Goal}
 use Rattle.fj_machine.specs.declared.mode.Mode.{Mode}

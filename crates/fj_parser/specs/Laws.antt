@@ -1,7 +1,7 @@
 -- No public contract cites this: it serves the proofs.
 -- What is known of a reader of a language.
 use Rattle.std.specs.Prelude.{◌≡◌, ℕ, suc, ◌+◌, ◌≤◌, true, false, List, [], ◌∷◌, ◌++◌, length, Some, None}
-use Rattle.cfj_model.specs.Faults.{Language}
+use Rattle.cfj_model.specs.Languages.{Language}
 use Rattle.cfj_words.specs.Names.{is_identifier}
 use Rattle.cfj_words.specs.Tokens.{Token, Id, End}
 use Rattle.cfj_model.specs.Roles.{Role, casts, other_token, are_settled}

@@ -4,9 +4,6 @@ pub mod Counting
 pub mod Ending
 pub mod GoalViews
 pub mod Goals
-pub mod Languages
 pub mod Laws
-pub mod Parts
 pub mod Reading
 pub mod Waiting
-pub mod Wanted

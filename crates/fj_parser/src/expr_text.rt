@@ -3,11 +3,12 @@
 ghost use Rattle.std.specs.Prelude.{◌≡◌, ℕ, true, IfOk, Err};
 ghost use Rattle.cfj_model.specs.declared.expr.Expr.{Expr};
 ghost use Rattle.cfj_model.specs.Expressions.{slots};
-ghost use Rattle.cfj_model.specs.Faults.{IsFirstFault, IsTextOf};
+ghost use Rattle.cfj_model.specs.Faults.{IsFirstFault};
+ghost use Rattle.cfj_model.specs.Languages.{IsTextOf};
 ghost use Rattle.cfj_model.specs.Numbered.{run_from};
 ghost use Rattle.cfj_model.specs.ProductLines.{is_body};
 ghost use Rattle.fj_parser.specs.Answers.{IsReadAs, IsRefusedAs};
-ghost use Rattle.fj_parser.specs.Languages.{expressions};
+ghost use Rattle.cfj_model.specs.PartLanguages.{expressions};
 
 use crate::goal::Goal;
 use crate::only::only;

@@ -15,7 +15,7 @@
 //! machine alone; `Endings.antt` and `PartTexts.antt` say what its end means in a language.
 //!
 //! Parts of a project are read by the same machine and loop: `specs/Goals.antt` says where it starts for each and which tokens it
-//! takes at the part's begin and end, `specs/Languages.antt` which texts they are, and a file for each part (`ClassLaw.antt`,
+//! takes at the part's begin and end, `PartLanguages.antt` of `cfj_model` which texts they are, and a file for each part (`ClassLaw.antt`,
 //! `NameLaw.antt` and so on) proves the facts of `specs/Laws.antt` for it. A formula's tokens are `formula_reader`'s, and an
 //! expression's `expression_reader`'s, whose laws say the same of formulas and expressions: the machine hands them on up to the `;`.
 //!
@@ -40,9 +40,8 @@ mod reading;
 mod results;
 mod settle;
 mod waiting;
-mod want;
 
-pub use cfj_model::Member;
+pub use cfj_model::{FaultKind, LimitKind, Member, ParseFault, Want};
 pub use class_text::parse_class;
 pub use constructor_text::parse_constructor;
 pub use expr_text::parse_expr;
@@ -50,4 +49,3 @@ pub use member_text::parse_member;
 pub use model_text::parse_model;
 pub use name_text::parse_name;
 pub use parser::parse_project;
-pub use want::Want;

@@ -1,22 +1,23 @@
 //! The text of a field or a method.
 
 ghost use Rattle.std.specs.Prelude.{◌≡◌, ℕ, ◌+◌, true, nat_le, length, [], ◌∷◌, IfOk, Err};
+ghost use Rattle.cfj_model.specs.Coloring.{palette_of};
 ghost use Rattle.cfj_model.specs.declared.class.Field.{Field};
 ghost use Rattle.cfj_model.specs.declared.class.Method.{Method};
 ghost use Rattle.cfj_model.specs.declared.member.Member.{Member};
-ghost use Rattle.cfj_model.specs.Faults.{IsFirstFault, IsTextOf};
+ghost use Rattle.cfj_model.specs.Faults.{IsFirstFault};
+ghost use Rattle.cfj_model.specs.Languages.{IsTextOf};
 ghost use Rattle.cfj_model.specs.ProductLines.{are_distinct, most_features};
 ghost use Rattle.fj_parser.specs.Answers.{IsReadAs, IsRefusedAs};
-ghost use Rattle.fj_parser.specs.Parts.{is_member, is_numbered_member};
-ghost use Rattle.fj_parser.specs.Wanted.{members_wanted};
+ghost use Rattle.cfj_model.specs.Parts.{is_member, is_numbered_member};
+ghost use Rattle.cfj_model.specs.PartLanguages.{members_wanted};
 
 use crate::goal::Goal;
 use crate::only::only;
 use crate::part::Part;
 use crate::reading::read_text;
 use crate::results::into_members;
-use crate::want::Want;
-use cfj_model::{FaultKind, FeatureModel, Field, Member, Method, ParseFault};
+use cfj_model::{FaultKind, FeatureModel, Field, Member, Method, ParseFault, Want};
 use std::alloc::Global;
 
 fn read_field<'a>(
@@ -26,8 +27,8 @@ fn read_field<'a>(
 ) -> Result<Member, ParseFault>
     requires few { nat_le (length model.now.features) most_features ≡ true }
     requires distinct { are_distinct model.now.features ≡ true }
-    ensures read { IfOk result (λ member. IsTextOf (members_wanted Want.Field model.entry.now.features) text.entry.now member) }
-    ensures fault { (at : ℕ) (kind : _) → result ≡ Err (ParseFault.At at kind) → IsFirstFault (members_wanted Want.Field model.entry.now.features) text.entry.now at kind }
+    ensures read { IfOk result (λ member. IsTextOf (members_wanted Want.Field model.entry.now.format model.entry.now.features) text.entry.now member) }
+    ensures fault { (at : ℕ) (kind : _) → result ≡ Err (ParseFault.At at kind) → IsFirstFault (members_wanted Want.Field model.entry.now.format model.entry.now.features) text.entry.now at kind }
 {
     let machine = read_text(alloc, Part::under(Goal::Field, model), text)?;
     Ok(Member::Field(only(into_members(alloc, machine).0)))
@@ -40,8 +41,8 @@ fn read_method<'a>(
 ) -> Result<Member, ParseFault>
     requires few { nat_le (length model.now.features) most_features ≡ true }
     requires distinct { are_distinct model.now.features ≡ true }
-    ensures read { IfOk result (λ member. IsTextOf (members_wanted Want.Method model.entry.now.features) text.entry.now member) }
-    ensures fault { (at : ℕ) (kind : _) → result ≡ Err (ParseFault.At at kind) → IsFirstFault (members_wanted Want.Method model.entry.now.features) text.entry.now at kind }
+    ensures read { IfOk result (λ member. IsTextOf (members_wanted Want.Method model.entry.now.format model.entry.now.features) text.entry.now member) }
+    ensures fault { (at : ℕ) (kind : _) → result ≡ Err (ParseFault.At at kind) → IsFirstFault (members_wanted Want.Method model.entry.now.format model.entry.now.features) text.entry.now at kind }
 {
     let machine = read_text(alloc, Part::under(Goal::Method, model), text)?;
     Ok(Member::Method(only(into_members(alloc, machine).1)))
@@ -67,8 +68,8 @@ fn read_member<'a>(
 ) -> Result<Member, ParseFault>
     requires few { nat_le (length model.now.features) most_features ≡ true }
     requires distinct { are_distinct model.now.features ≡ true }
-    ensures read { IfOk result (λ member. IsTextOf (members_wanted Want.Any model.entry.now.features) text.entry.now member) }
-    ensures fault { (at : ℕ) (kind : _) → result ≡ Err (ParseFault.At at kind) → IsFirstFault (members_wanted Want.Any model.entry.now.features) text.entry.now at kind }
+    ensures read { IfOk result (λ member. IsTextOf (members_wanted Want.Any model.entry.now.format model.entry.now.features) text.entry.now member) }
+    ensures fault { (at : ℕ) (kind : _) → result ≡ Err (ParseFault.At at kind) → IsFirstFault (members_wanted Want.Any model.entry.now.format model.entry.now.features) text.entry.now at kind }
 {
     let machine = read_text(alloc, Part::under(Goal::Member, model), text)?;
     let (fields, methods) = into_members(alloc, machine);
@@ -84,8 +85,8 @@ fn read_wanted<'a>(
 ) -> Result<Member, ParseFault>
     requires few { nat_le (length model.now.features) most_features ≡ true }
     requires distinct { are_distinct model.now.features ≡ true }
-    ensures read { IfOk result (λ member. IsTextOf (members_wanted want model.entry.now.features) text.entry.now member) }
-    ensures fault { (at : ℕ) (kind : _) → result ≡ Err (ParseFault.At at kind) → IsFirstFault (members_wanted want model.entry.now.features) text.entry.now at kind }
+    ensures read { IfOk result (λ member. IsTextOf (members_wanted want model.entry.now.format model.entry.now.features) text.entry.now member) }
+    ensures fault { (at : ℕ) (kind : _) → result ≡ Err (ParseFault.At at kind) → IsFirstFault (members_wanted want model.entry.now.format model.entry.now.features) text.entry.now at kind }
 {
     match want {
         Want::Any => read_member(alloc, text, model),
@@ -104,14 +105,14 @@ pub fn parse_member(
     requires few { nat_le (length model.now.features) most_features ≡ true }
     requires distinct { are_distinct model.now.features ≡ true }
     // What is read is the value of a text of the grammar, and every text of the grammar is read.
-    ensures read { IfOk result (λ member. IsTextOf (members_wanted want model.now.features) text.now member) }
-    ensures only { (member : Member) → IsTextOf (members_wanted want model.now.features) text.now member → IsReadAs member result }
+    ensures read { IfOk result (λ member. IsTextOf (members_wanted want model.now.format model.now.features) text.now member) }
+    ensures only { (member : Member) → IsTextOf (members_wanted want model.now.format model.now.features) text.now member → IsReadAs member result }
     // A project keeps it, and it is numbered.
-    ensures kept { IfOk result (λ member. is_member (length model.now.features) member ≡ true) }
+    ensures kept { IfOk result (λ member. is_member (palette_of model.now) member ≡ true) }
     ensures numbered { IfOk result (λ member. is_numbered_member member ≡ true) }
     // A fault is the first one, and every first fault is told.
-    ensures fault { (at : ℕ) (kind : _) → result ≡ Err (ParseFault.At at kind) → IsFirstFault (members_wanted want model.now.features) text.now at kind }
-    ensures first { (at : ℕ) (kind : _) → IsFirstFault (members_wanted want model.now.features) text.now at kind → IsRefusedAs at kind result }
+    ensures fault { (at : ℕ) (kind : _) → result ≡ Err (ParseFault.At at kind) → IsFirstFault (members_wanted want model.now.format model.now.features) text.now at kind }
+    ensures first { (at : ℕ) (kind : _) → IsFirstFault (members_wanted want model.now.format model.now.features) text.now at kind → IsRefusedAs at kind result }
 {
     read_wanted(alloc, text, model, want)
 }

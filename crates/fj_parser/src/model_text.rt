@@ -2,10 +2,11 @@
 
 ghost use Rattle.std.specs.Prelude.{◌≡◌, ℕ, IfOk, Err};
 ghost use Rattle.cfj_model.specs.declared.feature_model.FeatureModel.{FeatureModel};
-ghost use Rattle.cfj_model.specs.Faults.{IsFirstFault, IsTextOf};
+ghost use Rattle.cfj_model.specs.Faults.{IsFirstFault};
+ghost use Rattle.cfj_model.specs.Languages.{IsTextOf};
 ghost use Rattle.fj_parser.specs.Answers.{IsReadAs, IsRefusedAs};
-ghost use Rattle.fj_parser.specs.Languages.{models};
-ghost use Rattle.fj_parser.specs.Parts.{IsModel};
+ghost use Rattle.cfj_model.specs.PartLanguages.{models};
+ghost use Rattle.cfj_model.specs.Parts.{IsModel};
 
 use crate::goal::Goal;
 use crate::part::Part;

@@ -1,10 +1,11 @@
 //! The text of a name.
 
 ghost use Rattle.std.specs.Prelude.{◌≡◌, ℕ, true, List, IfOk, Err};
-ghost use Rattle.cfj_model.specs.Faults.{IsFirstFault, IsTextOf};
+ghost use Rattle.cfj_model.specs.Faults.{IsFirstFault};
+ghost use Rattle.cfj_model.specs.Languages.{IsTextOf};
 ghost use Rattle.cfj_words.specs.Names.{is_name, is_short_identifier};
 ghost use Rattle.fj_parser.specs.Answers.{IsReadAs, IsRefusedAs};
-ghost use Rattle.fj_parser.specs.Languages.{names};
+ghost use Rattle.cfj_model.specs.PartLanguages.{names};
 
 use crate::goal::Goal;
 use crate::part::Part;

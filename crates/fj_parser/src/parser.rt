@@ -1,7 +1,8 @@
 //! The text of a project.
 
 ghost use Rattle.std.specs.Prelude.{◌≡◌, ℕ, ◌≤◌, length, IfOk, Err};
-ghost use Rattle.cfj_model.specs.Faults.{IsFirstFault, IsTextOf, projects};
+ghost use Rattle.cfj_model.specs.Faults.{IsFirstFault};
+ghost use Rattle.cfj_model.specs.Languages.{IsTextOf, projects};
 ghost use Rattle.cfj_model.specs.ProductLines.{ProductLine};
 ghost use Rattle.fj_parser.specs.Answers.{IsReadAs, IsRefusedAs};
 ghost use Rattle.fj_machine.specs.Machine.{of_parts};

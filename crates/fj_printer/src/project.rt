@@ -1,6 +1,7 @@
 //! Whole projects, variants and classes.
 
 ghost use Rattle.std.specs.Prelude.{◌≡◌, ◌≤◌, true, length};
+ghost use Rattle.cfj_model.specs.Coloring.{palette_of};
 ghost use Rattle.cfj_model.specs.Print.{texts, class_text, printed, plain_printed};
 ghost use Rattle.cfj_model.specs.ProductLines.{IsPlain, is_class};
 ghost use Rattle.cfj_model.specs.Projection.{projected};
@@ -66,7 +67,7 @@ pub fn print_variant<K: Sink>(
 /// After a failure the sink holds a proper prefix of that form behind what it held. No memory is taken.
 pub fn print_class<K: Sink>(class: &Class, model: &FeatureModel, sink: &mut K) -> Result<(), Failed>
     requires few { length model.now.features ≤ 128 }
-    requires known { is_class (length model.now.features) class.now ≡ true }
+    requires known { is_class (palette_of model.now) class.now ≡ true }
     ensures { Gains K.Sink sink.old sink.new (class_text model.now.features class.now) result }
 {
     let mut buffer = Buffer::new();

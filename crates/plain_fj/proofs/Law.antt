@@ -5,7 +5,7 @@ use Rattle.std.specs.List.{list_all}
 use Rattle.std.specs.Str.{bytes_eq}
 use Rattle.std.proofs.lemmas.Bool.{and_parts, and_from, not-true, not-false, false_from_ne_true}
 use Rattle.cfj_words.specs.Names.{is_short_identifier}
-use Rattle.cfj_model.specs.Expressions.{are_known}
+use Rattle.cfj_model.specs.Coloring.{are_known}
 use Rattle.cfj_model.specs.Members.{field_alts_rise, method_alts_rise}
 use Rattle.cfj_model.specs.ProductLines.{ProductLine, IsProject, object, most_fields, most_methods, are_distinct, is_field, are_fields as are_kept_fields, is_ctor, is_method as is_kept_method, are_methods, is_class}
 use Rattle.cfj_words.specs.Lists.{Has}

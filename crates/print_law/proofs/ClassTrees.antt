@@ -10,7 +10,8 @@ use Rattle.cfj_model.specs.declared.class.Method.{Method}
 use Rattle.cfj_model.specs.declared.class.Class.{Class}
 use Rattle.cfj_logic.specs.declared.formula.Formula.{Formula}
 use Rattle.cfj_model.specs.ExpressionGrammar.{value_expr}
-use Rattle.cfj_model.specs.Expressions.{are_known, is_named, node_count, nest, slots}
+use Rattle.cfj_model.specs.Coloring.{are_known}
+use Rattle.cfj_model.specs.Expressions.{is_named, node_count, nest, slots}
 use Rattle.cfj_model.specs.FormulaGrammar.{value_iff}
 use Rattle.cfj_logic.specs.Formulas.{is_over, formula_nest}
 use Rattle.cfj_model.specs.Grammar.{Declared, Named, MethodTree, ClassTree, Tree, numbered, value_field, value_param, value_sent, value_ctor, value_method, value_class}

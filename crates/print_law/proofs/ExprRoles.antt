@@ -11,7 +11,8 @@ use Rattle.cfj_model.specs.declared.expr.Expr.{Expr}
 use Rattle.cfj_model.specs.declared.expr.Expr.TheOpen.{Expr-F}
 use Rattle.cfj_model.specs.declared.expr.Expr.TheFolds.{fold-Expr}
 use Rattle.cfj_model.specs.ExpressionGrammar.{ExprTree, cast, chain, this_word, variable, StepsTree, stop, get, call, roles_expr, roles_start, roles_steps, roles_args, roles_more_args}
-use Rattle.cfj_model.specs.Expressions.{of_arg, are_known, is_named_step, is_named_arg, is_named, Nesting, receiver_depth, greatest, nesting_step, nesting_of_arg, nest, node_count_step, node_count}
+use Rattle.cfj_model.specs.Coloring.{are_known}
+use Rattle.cfj_model.specs.Expressions.{of_arg, is_named_step, is_named_arg, is_named, Nesting, receiver_depth, greatest, nesting_step, nesting_of_arg, nest, node_count_step, node_count}
 use Rattle.cfj_model.specs.Marks.{roles_marks}
 use Rattle.cfj_words.specs.Names.{is_name, is_short_identifier}
 use Rattle.cfj_model.specs.ProductLines.{are_distinct, most_nest, most_nodes, most_size}

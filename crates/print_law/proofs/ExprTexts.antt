@@ -10,7 +10,8 @@ use Rattle.cfj_model.specs.declared.expr.Expr.{Expr}
 use Rattle.cfj_model.specs.declared.expr.Expr.TheOpen.{Expr-F}
 use Rattle.cfj_model.specs.declared.expr.Expr.TheFolds.{fold-Expr}
 use Rattle.cfj_model.specs.ExpressionGrammar.{ExprTree, cast, chain, this_word, variable, StepsTree, stop, get, call, spell_expr, spell_start, spell_steps, spell_args, spell_more_args}
-use Rattle.cfj_model.specs.Expressions.{are_known, is_named_step, is_named_arg, is_named}
+use Rattle.cfj_model.specs.Coloring.{are_known}
+use Rattle.cfj_model.specs.Expressions.{is_named_step, is_named_arg, is_named}
 use Rattle.cfj_model.specs.Marks.{spell_marks}
 use Rattle.cfj_words.specs.Names.{is_name, is_short_identifier}
 use Rattle.cfj_model.specs.Print.{Shown, shown_step, shown_arg, receiver_text, itself, joined, texts_behind, marks_text, expr_text}

@@ -13,11 +13,13 @@ use Rattle.cfj_model.specs.declared.expr.Expr.TheOpen.{Expr-F}
 use Rattle.cfj_model.specs.declared.expr.Expr.TheVariants as e
 use Rattle.cfj_model.specs.declared.expr.Expr.TheFolds.{fold-Expr}
 use Rattle.cfj_model.specs.ExpressionGrammar.{ExprTree, cast, chain, variable, this_word, made, bracket, StepsTree, stop, get, call, ArgsTree, no_args, first_arg, MoreArgsTree, no_more, next_arg, Numbered, value_expr, value_steps, value_args, value_more_args}
-use Rattle.cfj_model.specs.Expressions.{of_arg, slots_step, slots, are_known, is_named_step, is_named_arg, is_named}
+use Rattle.cfj_model.specs.Coloring.{are_known}
+use Rattle.cfj_model.specs.Expressions.{of_arg, slots_step, slots, is_named_step, is_named_arg, is_named}
 use Rattle.cfj_model.specs.Marks.{colors_of}
 use Rattle.cfj_words.specs.Names.{is_short_identifier}
 use Rattle.cfj_model.specs.Numbered.{run_from}
 use Rattle.cfj_model.specs.ProductLines.{are_distinct}
+use Rattle.cfj_model.proofs.Numbering.{arg_slots}
 use Rattle.cfj_model.proofs.ExprCases.{Proved, args_of, Cases, by_cases, fold_var, fold_get, fold_call, fold_new, fold_cast}
 use Rattle.print_law.proofs.Features.{marks_of, colors_again}
 
@@ -75,10 +77,6 @@ run_append n (x ∷ xs) ys h =
 -- the first of them is the least
 pub run_first : (n s : ℕ) (ss : List ℕ) → run_from n (s ∷ ss) ≡ true → (s ≡ n) × (run_from (n + 1) ss ≡ true)
 run_first n s ss h = let p = and_parts (s == n) (run_from (n + 1) ss) h in (eqb-true s n p.0, p.1)
-
--- the slots of arguments
-abbrev pub arg_slots : List Arg → List ℕ
-arg_slots args = flat_map (λ s. s) (map (λ (a : Arg). slots a.expr) args)
 
 -- ---- the value
 

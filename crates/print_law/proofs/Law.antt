@@ -5,14 +5,13 @@ use Rattle.std.specs.List.{list_all}
 use Rattle.std.proofs.lemmas.Bool.{and_parts, leb-true}
 use Rattle.std.proofs.lemmas.List.Sums.{sum_by-cons}
 use Rattle.cfj_model.specs.declared.class.Class.{Class}
-use Rattle.cfj_model.specs.Faults.{IsTextOf, projects, single_classes}
+use Rattle.cfj_model.specs.Languages.{IsTextOf, projects, single_classes}
 use Rattle.cfj_words.specs.Names.{is_short_identifier}
 use Rattle.cfj_model.specs.Numbered.{is_numbered_class, IsNumbered}
 use Rattle.cfj_model.specs.Print.{printed, class_text}
 use Rattle.cfj_model.specs.ProductLines.{ProductLine, IsProject, are_distinct, is_class, class_size, size, most_size}
 use Rattle.print_law.proofs.ClassRoles.{project_within, alone_within}
 use Rattle.print_law.proofs.ClassTexts.{project_reads, class_reads, alone}
-use Rattle.print_law.proofs.Numbering.{class_numbered, value_numbered}
 use Rattle.print_law.proofs.ClassTrees.{tree_of, tree_of_class, project_again, class_again}
 
 -- the print of a numbered project is a text that stands for it
@@ -60,10 +59,3 @@ pub found_law : (p : ProductLine) (place : ℕ) → IsProject p → (found : Opt
     → IfSome found (λ k. IsTextOf (single_classes p.model.features) (class_text p.model.features k) k)
 found_law p place is None e n = tt
 found_law p place is (Some k) e n = place_law p place k is e n
-
--- what a text stands for is numbered
-pub read_numbered : (text : List ℕ) (p : ProductLine) → IsTextOf projects text p → IsNumbered p
-read_numbered text p is = subst IsNumbered (sym is.valued) (value_numbered is.tree)
-
-pub class_read_numbered : (features : List (List ℕ)) (text : List ℕ) (k : Class) → IsTextOf (single_classes features) text k → is_numbered_class k ≡ true
-class_read_numbered features text k is = ap is_numbered_class is.valued ∙ class_numbered features is.tree

@@ -12,4 +12,3 @@ pub mod ClassTrees
 pub mod ClassTexts
 pub mod ClassRoles
 pub mod Law
-pub mod Numbering

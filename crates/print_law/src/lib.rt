@@ -1,6 +1,6 @@
 //! The law that what is printed reads back.
 //!
-//! Rests on `cfj_model`, whose `specs/Print.antt` says what is printed and whose `specs/Faults.antt` says what a text of the
+//! Rests on `cfj_model`, whose `specs/Print.antt` says what is printed and whose `specs/Languages.antt` says what a text of the
 //! grammar is and what it stands for. The law needs no code: each of these functions has a contract that states it, and a body
 //! that only asks what a project's type keeps.
 //!
@@ -14,7 +14,7 @@
 #![tactic(auto)]
 
 ghost use Rattle.std.specs.Prelude.{IfSome, IsTrue, slice_get};
-ghost use Rattle.cfj_model.specs.Faults.{IsTextOf, projects, single_classes};
+ghost use Rattle.cfj_model.specs.Languages.{IsTextOf, projects, single_classes};
 ghost use Rattle.cfj_model.specs.Numbered.{IsNumbered, is_numbered_class};
 ghost use Rattle.cfj_model.specs.Print.{class_text, printed};
 
@@ -31,7 +31,7 @@ pub fn print_reads_back(project: &Project)
 /// The text of a numbered class of a project is a text of the grammar of classes that stands for that class.
 pub fn class_reads_back(project: &Project, place: usize)
     requires numbered { IfSome (slice_get project.now.classes place) (λ k. IsTrue (is_numbered_class k)) }
-    ensures { IfSome (slice_get project.now.classes place) (λ k. IsTextOf (single_classes project.now.model.features) (class_text project.now.model.features k) k) }
+    ensures { IfSome (slice_get project.now.classes place) (λ k. IsTextOf (single_classes project.now.model.format project.now.model.features) (class_text project.now.model.features k) k) }
 {
     let _kept = project.model();
 }
@@ -44,6 +44,6 @@ pub fn read_is_numbered(project: &Project, text: &str)
 
 /// And so is the class that a text stands for among declared features.
 pub fn read_class_is_numbered(model: &FeatureModel, class: &Class, text: &str)
-    requires read { IsTextOf (single_classes model.now.features) text.now class.now }
+    requires read { IsTextOf (single_classes model.now.format model.now.features) text.now class.now }
     ensures { IsTrue (is_numbered_class class.now) }
 {}

@@ -1,4 +1,4 @@
-use Rattle.print_law.proofs.Law.{class_read_numbered}
+use Rattle.cfj_model.proofs.Numbering.{class_read_numbered}
 use Rattle.print_law.proofs.read_class_is_numbered.Goals as goal
 
 pub returns : goal.returns

@@ -1,6 +1,6 @@
 use Rattle.std.proofs.Common.{◌≡◌, true, length, nat_le}
 use Rattle.std.proofs.lemmas.Result.{IfOk-weaker}
-use Rattle.cfj_model.specs.Faults.{IsTextOf, single_classes}
+use Rattle.cfj_model.specs.Languages.{IsTextOf, single_classes}
 use Rattle.cfj_model.specs.Numbered.{is_numbered_class}
 use Rattle.cfj_model.specs.ProductLines.{class_size, is_class, most_size}
 use Rattle.fj_parser.specs.Goals.{reader_for}
@@ -8,7 +8,7 @@ use Rattle.fj_machine.specs.Machine.{unnamed}
 use Rattle.fj_parser.specs.declared.goal.Goal.TheVariants as reads
 use Rattle.fj_parser.proofs.ClassLaw.{class_laws}
 use Rattle.fj_parser.proofs.Exact.{only_read, only_told}
-use Rattle.print_law.proofs.Law.{class_read_numbered}
+use Rattle.cfj_model.proofs.Numbering.{class_read_numbered}
 use Rattle.fj_parser.proofs.TextsKept.{class_text_kept}
 use Rattle.fj_parser.proofs.class_text.parse_class.Goals as goal
 

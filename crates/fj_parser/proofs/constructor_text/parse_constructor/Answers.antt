@@ -1,9 +1,9 @@
 use Rattle.std.proofs.Common.{◌≡◌, true, length}
 use Rattle.std.proofs.lemmas.Result.{IfOk-weaker}
-use Rattle.cfj_model.specs.Faults.{IsTextOf}
+use Rattle.cfj_model.specs.Languages.{IsTextOf}
 use Rattle.cfj_model.specs.Numbered.{is_numbered_ctor}
 use Rattle.cfj_model.specs.ProductLines.{is_ctor}
-use Rattle.fj_parser.specs.Languages.{constructors}
+use Rattle.cfj_model.specs.PartLanguages.{constructors}
 use Rattle.fj_parser.specs.Goals.{reader_for}
 use Rattle.fj_parser.specs.declared.goal.Goal.TheVariants as reads
 use Rattle.fj_parser.proofs.ConstructorLaw.{constructor_laws}

@@ -1,10 +1,10 @@
 use Rattle.std.proofs.Common.{◌≡◌, ℕ, [], true}
 use Rattle.std.proofs.lemmas.Result.{IfOk-weaker}
 use Rattle.cfj_model.specs.Expressions.{slots}
-use Rattle.cfj_model.specs.Faults.{IsTextOf}
+use Rattle.cfj_model.specs.Languages.{IsTextOf}
 use Rattle.cfj_model.specs.Numbered.{run_from}
 use Rattle.cfj_model.specs.ProductLines.{is_body}
-use Rattle.fj_parser.specs.Languages.{expressions}
+use Rattle.cfj_model.specs.PartLanguages.{expressions}
 use Rattle.fj_parser.specs.Goals.{reader_for}
 use Rattle.fj_machine.specs.Machine.{unnamed}
 use Rattle.fj_parser.specs.declared.goal.Goal.TheVariants as reads

@@ -1,8 +1,8 @@
 use Rattle.std.proofs.Common.{◌≡◌, true, length}
 use Rattle.std.proofs.lemmas.Result.{IfOk-weaker}
-use Rattle.cfj_model.specs.Faults.{IsTextOf}
-use Rattle.fj_parser.specs.Parts.{is_member, is_numbered_member}
-use Rattle.fj_parser.specs.Wanted.{members_wanted}
+use Rattle.cfj_model.specs.Languages.{IsTextOf}
+use Rattle.cfj_model.specs.Parts.{is_member, is_numbered_member}
+use Rattle.cfj_model.specs.PartLanguages.{members_wanted}
 use Rattle.fj_parser.proofs.WantedTexts.{only_wanted, first_wanted}
 use Rattle.fj_parser.proofs.TextsKept.{member_text_kept, member_text_numbered}
 use Rattle.fj_parser.proofs.member_text.parse_member.Goals as goal

@@ -1,8 +1,8 @@
 use Rattle.std.proofs.Common.{◌≡◌, Err, refl, subst, ap, ◌∙◌, length, arith}
 use Rattle.std.proofs.lemmas.Result.{err_from_is_err_and}
 use Rattle.cfj_model.specs.declared.fault.ParseFault.TheVariants.{At}
-use Rattle.cfj_model.specs.Faults.{IsTextOf}
-use Rattle.fj_parser.specs.Languages.{single_members}
+use Rattle.cfj_model.specs.Languages.{IsTextOf}
+use Rattle.cfj_model.specs.PartLanguages.{single_members}
 use Rattle.fj_machine.specs.Machine.{unnamed}
 use Rattle.fj_machine.specs.MachineViews.{machine_seen}
 use Rattle.fj_parser.specs.declared.goal.Goal.TheVariants as reads

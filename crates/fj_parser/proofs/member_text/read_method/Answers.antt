@@ -2,12 +2,12 @@ use Rattle.std.proofs.Common.{◌≡◌, Err, length, refl, ap, subst, ◌∙◌
 use Rattle.std.proofs.lemmas.Result.{err_from_is_err_and}
 use Rattle.cfj_model.specs.declared.fault.ParseFault.TheVariants.{At}
 use Rattle.cfj_model.specs.declared.member.Member.TheVariants as member
-use Rattle.cfj_model.specs.Faults.{IsTextOf}
+use Rattle.cfj_model.specs.Languages.{IsTextOf}
 use Rattle.fj_parser.specs.Goals.{reader_for}
-use Rattle.fj_parser.specs.Languages.{single_methods}
+use Rattle.cfj_model.specs.PartLanguages.{single_methods}
 use Rattle.fj_machine.specs.Machine.{unnamed}
 use Rattle.fj_machine.specs.MachineViews.{machine_seen}
-use Rattle.fj_parser.specs.Wanted.{standing_for}
+use Rattle.cfj_model.specs.PartLanguages.{standing_for}
 use Rattle.fj_parser.specs.declared.goal.Goal.TheVariants as reads
 use Rattle.fj_parser.proofs.MethodLaw.{method_laws}
 use Rattle.fj_parser.proofs.PartEnds.{one_method, one_item}

@@ -1,6 +1,6 @@
 use Rattle.std.proofs.Common.{sym, subst}
 use Rattle.cfj_model.specs.Faults.{IsFirstFault}
-use Rattle.fj_parser.specs.Wanted.{members_wanted}
+use Rattle.cfj_model.specs.PartLanguages.{members_wanted}
 use Rattle.fj_parser.proofs.member_text.read_wanted.Goals as goal
 
 pub returns-in-Any-clause-fault : goal.returns-in-Any-clause-fault

@@ -1,13 +1,13 @@
 use Rattle.std.proofs.Common.{[]}
 use Rattle.std.proofs.lemmas.Result.{IfOk-weaker}
-use Rattle.cfj_model.specs.Faults.{IsTextOf}
-use Rattle.fj_parser.specs.Languages.{models}
+use Rattle.cfj_model.specs.Languages.{IsTextOf}
+use Rattle.cfj_model.specs.PartLanguages.{models}
 use Rattle.fj_parser.specs.Goals.{reader_for}
 use Rattle.fj_machine.specs.Machine.{unnamed}
 use Rattle.fj_parser.specs.declared.goal.Goal.TheVariants as reads
 use Rattle.fj_parser.proofs.ModelLaw.{model_laws}
 use Rattle.fj_parser.proofs.Exact.{only_read, only_told}
-use Rattle.fj_parser.specs.Parts.{IsModel}
+use Rattle.cfj_model.specs.Parts.{IsModel}
 use Rattle.fj_parser.proofs.TextsKept.{model_text_kept}
 use Rattle.fj_parser.proofs.model_text.parse_model.Goals as goal
 

@@ -1,8 +1,8 @@
 use Rattle.std.proofs.Common.{◌≡◌, [], true}
 use Rattle.std.proofs.lemmas.Result.{IfOk-weaker}
-use Rattle.cfj_model.specs.Faults.{IsTextOf}
+use Rattle.cfj_model.specs.Languages.{IsTextOf}
 use Rattle.cfj_words.specs.Names.{is_short_identifier}
-use Rattle.fj_parser.specs.Languages.{names}
+use Rattle.cfj_model.specs.PartLanguages.{names}
 use Rattle.fj_parser.specs.Goals.{reader_for}
 use Rattle.fj_machine.specs.Machine.{unnamed}
 use Rattle.fj_parser.specs.declared.goal.Goal.TheVariants as reads

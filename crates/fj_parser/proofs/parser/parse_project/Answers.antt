@@ -1,4 +1,4 @@
-use Rattle.cfj_model.specs.Faults.{projects}
+use Rattle.cfj_model.specs.Languages.{projects}
 use Rattle.fj_machine.specs.Machine.{reader}
 use Rattle.fj_parser.proofs.Exact.{only_read, only_told}
 use Rattle.fj_parser.proofs.Law.{laws}

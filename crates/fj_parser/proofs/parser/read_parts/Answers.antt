@@ -1,7 +1,7 @@
 use Rattle.std.proofs.Common.{◌≡◌, [], Err, refl, sym, subst}
 use Rattle.std.proofs.lemmas.Result.{err_from_is_err_and}
 use Rattle.cfj_model.specs.declared.fault.ParseFault.TheVariants.{At}
-use Rattle.cfj_model.specs.Faults.{IsTextOf, projects}
+use Rattle.cfj_model.specs.Languages.{IsTextOf, projects}
 use Rattle.fj_machine.specs.Machine.{unnamed}
 use Rattle.fj_machine.specs.MachineViews.{machine_seen}
 use Rattle.fj_parser.specs.declared.goal.Goal.TheVariants.{Project}

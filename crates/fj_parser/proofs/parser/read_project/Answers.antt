@@ -4,7 +4,8 @@ use Rattle.cfj_model.specs.declared.fault.FaultKind.TheVariants.{NotUtf8}
 use Rattle.cfj_model.specs.declared.fault.ParseFault.TheVariants.{At}
 use Rattle.std.specs.Str.{IsValidUpTo}
 use Rattle.fj_machine.specs.Machine.{of_parts}
-use Rattle.cfj_model.specs.Faults.{IsFirstFault, no_text, projects}
+use Rattle.cfj_model.specs.Faults.{IsFirstFault, no_text}
+use Rattle.cfj_model.specs.Languages.{projects}
 use Rattle.cfj_model.specs.ProductLines.{IsProject}
 use Rattle.fj_parser.proofs.TextsKept.{text_kept}
 use Rattle.fj_parser.proofs.parser.read_project.Goals as goal

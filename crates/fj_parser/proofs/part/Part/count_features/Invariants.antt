@@ -1,5 +1,5 @@
 use Rattle.std.proofs.Common.{◌≡◌, take}
-use Rattle.fj_parser.specs.Languages.{with_features}
+use Rattle.cfj_model.specs.Languages.{with_features}
 use Rattle.fj_tally.specs.Views.{tally_seen}
 use Rattle.fj_parser.proofs.part.Part.count_features.Given as goal
 

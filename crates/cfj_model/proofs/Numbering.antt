@@ -10,11 +10,19 @@ use Rattle.cfj_model.specs.declared.expr.Expr.TheVariants as e
 use Rattle.cfj_model.specs.ExpressionGrammar.{ExprTree, cast, chain, StartTree, variable, this_word, made, bracket, StepsTree, stop, get, call, ArgsTree, no_args, first_arg, MoreArgsTree, no_more, next_arg, value_expr, value_start, value_steps, value_args, value_more_args}
 use Rattle.cfj_model.specs.Expressions.{of_arg, slots_step, slots}
 use Rattle.cfj_model.specs.Grammar.{Declared, Named, MethodTree, ClassTree, Tree, numbered, value_field, value_param, value_sent, value_ctor, value_method, value_class, value}
+use Rattle.cfj_model.specs.Languages.{IsTextOf, projects, single_classes}
 use Rattle.cfj_model.specs.Marks.{colors_of}
+use Rattle.cfj_model.specs.ProductLines.{ProductLine}
+use Rattle.cfj_model.specs.declared.class.Class.{Class}
+use Rattle.cfj_model.specs.declared.feature_model.Format.{Format}
+use Rattle.cfj_model.specs.declared.signed.Signed.{Signed}
 use Rattle.cfj_model.specs.Numbered.{run_from, is_numbered_ctor, is_numbered_method, is_numbered_class, IsNumbered}
 use Rattle.cfj_model.proofs.ExprCases.{fold_var, fold_get, fold_call, fold_new, fold_cast}
 use Rattle.cfj_model.proofs.Members.{fields_are_numbered, methods_are_numbered, numbered_methods-all}
-use Rattle.print_law.proofs.ExprTrees.{arg_slots}
+
+-- the slots of arguments
+abbrev pub arg_slots : List Arg → List ℕ
+arg_slots args = flat_map (λ s. s) (map (λ (a : Arg). slots a.expr) args)
 
 -- these slots run from one number up to another
 record RunsTo (first next : ℕ) (ss : List ℕ) : Type 0 where
@@ -122,3 +130,10 @@ module _ (features : List (List ℕ)) where
 -- the product line that a tree stands for is numbered
 pub value_numbered : (t : Tree) → IsNumbered (value t)
 value_numbered t = classes_numbered t.features t.classes
+
+-- what a text stands for is numbered
+pub read_numbered : (text : List ℕ) (p : ProductLine) → IsTextOf projects text p → IsNumbered p
+read_numbered text p is = subst IsNumbered (sym is.valued) (value_numbered is.tree)
+
+pub class_read_numbered : (format : Format) (features : List (List ℕ)) (text : List ℕ) (k : Class) → IsTextOf (single_classes format features) text k → is_numbered_class k ≡ true
+class_read_numbered format features text k is = ap is_numbered_class is.valued ∙ class_numbered features is.tree

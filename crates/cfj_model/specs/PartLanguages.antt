@@ -9,24 +9,24 @@ use Rattle.cfj_model.specs.declared.member.Member.{Member}
 use Rattle.cfj_model.specs.declared.member.Member.TheVariants as member
 use Rattle.cfj_model.specs.ExpressionGrammar.{ExprTree, StartTree, StepsTree, ArgsTree, MoreArgsTree, cast, chain, variable, this_word, made, bracket, stop, get, call, no_args, first_arg, no_more, next_arg, spell_expr, roles_expr, value_expr}
 use Rattle.cfj_model.specs.FormulaGrammar.{IffTree}
-use Rattle.cfj_model.specs.Faults.{Language}
+use Rattle.cfj_model.specs.Languages.{Language, with_features}
+use Rattle.cfj_model.specs.declared.feature_model.Format.{Format}
+use Rattle.cfj_model.specs.declared.want.Want.{Want}
+use Rattle.cfj_model.specs.declared.want.Want.TheVariants as want
 use Rattle.cfj_model.specs.Grammar.{Declared, Named, MethodTree, ClassTree, Tree, spell, spell_ctor, spell_field, spell_method, spell_name, value, value_ctor, value_field, value_method}
 use Rattle.cfj_model.specs.Marks.{roles_marks}
-use Rattle.cfj_model.specs.Roles.{Role, Tally, method_name, nothing, other_token, used_name}
+use Rattle.cfj_model.specs.Roles.{Role, method_name, nothing, other_token, used_name}
 use Rattle.cfj_words.specs.Tokens.{Token}
 use Rattle.cfj_model.specs.TreeRoles.{roles, roles_ctor, roles_field, roles_method}
 
--- these features were met, and nothing else
-abbrev pub with_features : List (List ℕ) → Tally
-with_features features = record nothing { features = features }
-
 -- a feature model is a project without classes
 pub record ModelTree : Type 0 where
+  pub format : Format
   pub features : List (List ℕ)
   pub constraints : List IffTree
 
 abbrev pub without_classes : ModelTree → Tree
-without_classes m = record { features = m.features; constraints = m.constraints; classes = [] }
+without_classes m = record { format = m.format; features = m.features; constraints = m.constraints; classes = [] }
 
 -- feature models
 abbrev pub models : Language FeatureModel
@@ -48,24 +48,24 @@ pub record CtorTree : Type 0 where
 abbrev pub in_class : List ℕ → CtorTree → ClassTree
 in_class class c = record { marks = []; name = class; parent = class; fields = []; params = c.params; sends = c.sends; assigns = c.assigns; methods = [] }
 
--- constructors of the class of this name, whose nodes may be marked with these features
-abbrev pub constructors : List (List ℕ) → List ℕ → Language Constructor
-constructors features class =
+-- constructors of the class of this name, in this format and with nodes that may be marked with these features
+abbrev pub constructors : Format → List (List ℕ) → List ℕ → Language Constructor
+constructors format features class =
     record {
       Tree = CtorTree;
       spell = λ c. spell_ctor (in_class class c);
       roles = λ c. roles_ctor (in_class class c);
       value = λ c. value_ctor features (in_class class c);
-      met = with_features features;
+      met = with_features format features;
     }
 
 -- single fields
-abbrev pub single_fields : List (List ℕ) → Language Field
-single_fields features = record { Tree = Declared; spell = spell_field; roles = roles_field; value = value_field features; met = with_features features }
+abbrev pub single_fields : Format → List (List ℕ) → Language Field
+single_fields format features = record { Tree = Declared; spell = spell_field; roles = roles_field; value = value_field features; met = with_features format features }
 
 -- single methods
-abbrev pub single_methods : List (List ℕ) → Language Method
-single_methods features = record { Tree = MethodTree; spell = spell_method; roles = roles_method; value = value_method features; met = with_features features }
+abbrev pub single_methods : Format → List (List ℕ) → Language Method
+single_methods format features = record { Tree = MethodTree; spell = spell_method; roles = roles_method; value = value_method features; met = with_features format features }
 
 -- a field or a method
 pub data MemberTree : Type 0 where
@@ -87,8 +87,8 @@ value_member features (a_field d) = member.Field (value_field features d)
 value_member features (a_method m) = member.Method (value_method features m)
 
 -- single fields and methods
-abbrev pub single_members : List (List ℕ) → Language Member
-single_members features = record { Tree = MemberTree; spell = spell_member; roles = roles_member; value = value_member features; met = with_features features }
+abbrev pub single_members : Format → List (List ℕ) → Language Member
+single_members format features = record { Tree = MemberTree; spell = spell_member; roles = roles_member; value = value_member features; met = with_features format features }
 
 -- names
 abbrev pub names : Language (List ℕ)
@@ -128,3 +128,13 @@ pub record UnmarkedTree : Type 0 where
 -- expressions without marks
 abbrev pub expressions : Language Expr
 expressions = record { Tree = UnmarkedTree; spell = λ x. spell_expr x.tree; roles = λ x. roles_expr 0 x.tree; value = λ x. (value_expr [] 0 x.tree).0; met = nothing }
+
+-- the texts of a language, which stand for the values that are made of its own
+abbrev pub standing_for : {V W : Type 0} → (V → W) → Language V → Language W
+standing_for f l = record { Tree = l.Tree; spell = l.spell; roles = l.roles; value = λ x. f (l.value x); met = l.met }
+
+-- single members of the kind that is wanted
+abbrev pub members_wanted : Want → Format → List (List ℕ) → Language Member
+members_wanted want.Any format features = single_members format features
+members_wanted want.Field format features = standing_for member.Field (single_fields format features)
+members_wanted want.Method format features = standing_for member.Method (single_methods format features)

@@ -1,9 +1,10 @@
 -- What a project's type keeps of the parts that are read by themselves, beside `is_class` of a class, `is_ctor` of a
 -- constructor and `is_body` of an expression.
-use Rattle.std.specs.Prelude.{◌≡◌, Bool, ℕ, true, ◌&&◌, ◌==◌, nat_le, length, sum_by}
+use Rattle.std.specs.Prelude.{◌≡◌, Bool, true, ◌&&◌, ◌==◌, nat_le, length, sum_by}
 use Rattle.std.specs.List.{list_all}
 use Rattle.cfj_words.specs.Names.{is_short_identifier}
 use Rattle.cfj_logic.specs.Formulas.{formula_node_count}
+use Rattle.cfj_model.specs.Coloring.{Palette}
 use Rattle.cfj_model.specs.Numbered.{is_numbered_method}
 use Rattle.cfj_model.specs.ProductLines.{are_distinct, most_features, most_formula_nodes}
 use Rattle.cfj_model.specs.ProductLines.{is_constraint, is_field, is_method}
@@ -20,9 +21,9 @@ pub record IsModel (m : FeatureModel) : Type 0 where
   pub each_constraint : list_all (is_constraint (length m.features)) m.constraints ≡ true
 
 -- a field or a method
-abbrev pub is_member : ℕ → Member → Bool
-is_member features (member.Field f) = is_field features f
-is_member features (member.Method m) = is_method features m
+abbrev pub is_member : Palette → Member → Bool
+is_member palette (member.Field f) = is_field palette f
+is_member palette (member.Method m) = is_method palette m
 
 -- It has no namesakes before it, and the slots of a method run in the order of the text.
 abbrev pub is_numbered_member : Member → Bool

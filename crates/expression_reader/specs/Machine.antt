@@ -1,11 +1,13 @@
 -- The machine that reads an expression one token at a time: how it goes on, and the roles that it gives.
-use Rattle.std.specs.Prelude.{ℕ, ◌+◌, Bool, true, false, if◌then◌else◌, List, [], ◌∷◌, ◌++◌, map, codes, bit_or, Option, Some, None}
+use Rattle.std.specs.Prelude.{ℕ, ◌+◌, Bool, true, false, if◌then◌else◌, List, [], ◌∷◌, ◌++◌, map, codes, Option, Some, None}
 use Rattle.cfj_model.specs.declared.expr.Arg.{Arg}
 use Rattle.cfj_model.specs.declared.expr.Expr.{Expr}
 use Rattle.cfj_model.specs.declared.expr.Expr.TheVariants as e
-use Rattle.cfj_model.specs.Marks.{color_of}
-use Rattle.cfj_words.specs.Tokens.{Token, Id, NewWord, ThisWord, OpenParen, CloseParen, Comma, Dot, At, Semicolon}
-use Rattle.cfj_model.specs.Roles.{Role, casts, node, opens, other_token, used_name, var_name, mark_name}
+use Rattle.cfj_logic.specs.Sides.{Sides}
+use Rattle.cfj_model.specs.Coloring.{no_colors}
+use Rattle.cfj_model.specs.Marks.{marked}
+use Rattle.cfj_words.specs.Tokens.{Token, Id, NewWord, ThisWord, OpenParen, CloseParen, Comma, Dot, At, Bang, Semicolon}
+use Rattle.cfj_model.specs.Roles.{Role, casts, node, opens, other_token, sign, used_name, var_name, mark_name}
 use Rattle.expression_reader.specs.declared.frame.Frame.{Frame}
 use Rattle.expression_reader.specs.declared.frame.Frame.TheVariants.{InBracket, InCast, InArgs}
 use Rattle.expression_reader.specs.declared.frame.Head.{Head}
@@ -42,7 +44,7 @@ applied (OfCall s on m) args = e.Call s on m args
 applied (OfNew s c) args = e.New s c args
 
 -- an argument with these colours
-abbrev pub colored_arg : ℕ → Expr → Arg
+abbrev pub colored_arg : Sides → Expr → Arg
 colored_arg colors x = record { colors = colors; expr = x }
 
 -- where an expression must begin
@@ -68,7 +70,7 @@ close_in x n _ = None
 
 -- an argument ends at a comma
 abbrev pub comma_in : Expr → ℕ → List Frame → Option State
-comma_in x n (InArgs h before colors ∷ fs) = go fs (InMarks h (before ++ colored_arg colors x ∷ []) 0) n
+comma_in x n (InArgs h before colors ∷ fs) = go fs (InMarks h (before ++ colored_arg colors x ∷ []) no_colors) n
 comma_in x n _ = None
 
 -- the whole expression ends at the token behind it
@@ -97,18 +99,24 @@ after x fs n _ = None
 -- behind the bracket that opens an argument list
 abbrev pub first_arg : Head → List Frame → ℕ → Token → Option State
 first_arg h fs n CloseParen = go fs (After (applied h [])) n
-first_arg h fs n At = go fs (AfterAt h [] 0) n
-first_arg h fs n t = begin (InArgs h [] 0 ∷ fs) n t
+first_arg h fs n At = go fs (AfterAt h [] no_colors false) n
+first_arg h fs n t = begin (InArgs h [] no_colors ∷ fs) n t
 
 -- behind a comma between arguments, or a mark of an argument
-abbrev pub in_marks : Head → List Arg → ℕ → List Frame → ℕ → Token → Option State
-in_marks h before colors fs n At = go fs (AfterAt h before colors) n
+abbrev pub in_marks : Head → List Arg → Sides → List Frame → ℕ → Token → Option State
+in_marks h before colors fs n At = go fs (AfterAt h before colors false) n
 in_marks h before colors fs n t = begin (InArgs h before colors ∷ fs) n t
 
--- one more mark of an argument, over these features
-abbrev pub after_at : List (List ℕ) → Head → List Arg → ℕ → List Frame → ℕ → Token → Option State
-after_at features h before colors fs n (Id m) = go fs (InMarks h before (bit_or colors (color_of features m))) n
-after_at features h before colors fs n _ = None
+-- the `!` of a mark stands directly behind its `@`
+abbrev pub signed : Bool → Head → List Arg → Sides → List Frame → ℕ → Option State
+signed false h before colors fs n = go fs (AfterAt h before colors true) n
+signed true h before colors fs n = None
+
+-- one more mark of an argument, over these features, without its `!` or with it
+abbrev pub after_at : List (List ℕ) → Head → List Arg → Sides → Bool → List Frame → ℕ → Token → Option State
+after_at features h before colors off fs n (Id m) = go fs (InMarks h before (marked features colors (record { off = off; name = m }))) n
+after_at features h before colors off fs n Bang = signed off h before colors fs n
+after_at features h before colors off fs n _ = None
 
 -- behind a bracket where an expression begins, and behind a name in it
 abbrev pub paren : List Frame → ℕ → Token → Option State
@@ -155,7 +163,7 @@ abbrev pub step_in : List (List ℕ) → Mode → List Frame → ℕ → Token �
 step_in features Begin fs n t = begin fs n t
 step_in features (FirstArg h) fs n t = first_arg h fs n t
 step_in features (InMarks h before colors) fs n t = in_marks h before colors fs n t
-step_in features (AfterAt h before colors) fs n t = after_at features h before colors fs n t
+step_in features (AfterAt h before colors off) fs n t = after_at features h before colors off fs n t
 step_in features Paren fs n t = paren fs n t
 step_in features (ParenName w) fs n t = paren_name w fs n t
 step_in features (ParenClosed w) fs n t = paren_closed w fs n t
@@ -178,7 +186,7 @@ open_frames (f ∷ fs) = open_frames fs + 1
 abbrev pub open_in : Mode → ℕ → ℕ
 open_in (FirstArg h) d = d + 1
 open_in (InMarks h before colors) d = d + 1
-open_in (AfterAt h before colors) d = d + 1
+open_in (AfterAt h before colors off) d = d + 1
 open_in Paren d = d + 1
 open_in (ParenName w) d = d + 1
 open_in (ParenClosed w) d = d + 1
@@ -225,7 +233,7 @@ waits s t = waits_in s.mode t
 
 -- what an identifier is in a mode
 abbrev pub name_role : Mode → List ℕ → Role
-name_role (AfterAt h before colors) w = mark_name w
+name_role (AfterAt h before colors off) w = mark_name w
 name_role (AfterDot x) w = used_name w
 name_role AfterNew w = used_name w
 name_role _ w = var_name w
@@ -237,6 +245,7 @@ role_in m d OpenParen = opens (d + 1)
 role_in m d ThisWord = node
 role_in m d NewWord = node
 role_in m d Dot = node
+role_in m d Bang = sign
 role_in m d _ = other_token
 
 -- the role of a token; where it waits, that of a bracket's
@@ -299,7 +308,7 @@ abbrev pub takes_name_in : Mode → Bool
 takes_name_in Begin = true
 takes_name_in (FirstArg h) = true
 takes_name_in (InMarks h before colors) = true
-takes_name_in (AfterAt h before colors) = true
+takes_name_in (AfterAt h before colors off) = true
 takes_name_in Paren = true
 takes_name_in (ParenClosed w) = true
 takes_name_in (AfterDot x) = true

@@ -2,7 +2,7 @@
 use Rattle.std.specs.Prelude.{◌≡◌, ℕ, ◌+◌, Bool, true, false, if◌then◌else◌, List, [], ◌∷◌, ◌++◌, length}
 use Rattle.cfj_model.specs.ExpressionGrammar.{ExprTree, spell_expr, roles_expr}
 use Rattle.cfj_words.specs.Tokens.{Token, Semicolon}
-use Rattle.cfj_model.specs.Roles.{Role, casts, mark_name, node, opens, other_token, used_name, var_name}
+use Rattle.cfj_model.specs.Roles.{Role, casts, mark_name, node, opens, other_token, sign, used_name, var_name}
 use Rattle.expression_reader.specs.declared.mode.Mode.{Mode}
 use Rattle.expression_reader.specs.declared.mode.Mode.TheVariants.{AfterDot, AfterMember, AfterNew, AfterClass}
 
@@ -50,6 +50,7 @@ is_role_of_body (used_name w) = true
 is_role_of_body (mark_name w) = true
 is_role_of_body (opens d) = true
 is_role_of_body (casts d) = true
+is_role_of_body sign = true
 is_role_of_body node = true
 is_role_of_body other_token = true
 is_role_of_body _ = false

@@ -1,7 +1,6 @@
 //! Arguments and their marks.
 
-ghost use Rattle.std.specs.Prelude.{◌≡◌, ◌+◌, ◌≤◌, ◌<◌, ◌^◌, [], ◌∷◌, ◌++◌, true, IfOk, bit_or, length};
-ghost use Rattle.cfj_model.specs.Marks.{color_of};
+ghost use Rattle.std.specs.Prelude.{◌≡◌, ◌+◌, ◌≤◌, ◌<◌, ◌^◌, [], ◌∷◌, ◌++◌, true, IfOk, length};
 ghost use Rattle.expression_reader.specs.Machine as machine;
 ghost use Rattle.expression_reader.specs.Views.{moved};
 ghost use Rattle.fj_symbols.specs.Views.{is_name_token, symbol_seen};
@@ -44,17 +43,6 @@ pub(crate) fn with_arg(
     Ok(Items::of(list))
 }
 
-/// The colours with this mark too; a name that isn't a feature marks nothing.
-fn marked(colors: Colors, features: &Features<'_>, name: &str) -> Colors
-    requires { length features.now ≤ 128 }
-    ensures { result ≡ bit_or colors (color_of features.now name.now) }
-{
-    match features.place(name) {
-        Some(feature) => colors.with(feature as u8),
-        None => colors,
-    }
-}
-
 impl ExpressionReader {
     pub(crate) fn first_arg(
         &mut self,
@@ -91,7 +79,12 @@ impl ExpressionReader {
         ensures { IfOk result (λ mode. moved mode self.new.frames self.new.slot ≡ machine.in_marks head done colors self.old.frames self.old.slot (symbol_seen symbol.entry)) }
     {
         match symbol {
-            Symbol::At => Ok(Some(Mode::AfterAt { head, done, colors })),
+            Symbol::At => Ok(Some(Mode::AfterAt {
+                head,
+                done,
+                colors,
+                off: false,
+            })),
             _ => {
                 self.frames.push(Frame::InArgs { head, done, colors })?;
                 self.begin(alloc, symbol)
@@ -105,16 +98,23 @@ impl ExpressionReader {
         head: Head,
         done: Items<Arg>,
         colors: Colors,
+        off: bool,
         symbol: Symbol<'_>,
     ) -> Option<Mode>
         requires { length features.now ≤ 128 }
-        ensures { moved result self.new.frames self.new.slot ≡ machine.after_at features.now head done colors self.old.frames self.old.slot (symbol_seen symbol.entry) }
+        ensures { moved result self.new.frames self.new.slot ≡ machine.after_at features.now head done colors off self.old.frames self.old.slot (symbol_seen symbol.entry) }
     {
         match symbol {
             Symbol::Id(name) => {
-                let colors = marked(colors, features, name);
+                let colors = features.marked(colors, name, off);
                 Some(Mode::InMarks { head, done, colors })
             }
+            Symbol::Bang if !off => Some(Mode::AfterAt {
+                head,
+                done,
+                colors,
+                off: true,
+            }),
             _ => None,
         }
     }

@@ -17,11 +17,13 @@ pub enum Mode {
         done: Items<Arg>,
         colors: Colors,
     },
-    /// The sign of a mark.
+    /// The `@` of a mark, or its `!`.
     AfterAt {
         head: Head,
         done: Items<Arg>,
         colors: Colors,
+        /// The `!` was read.
+        off: bool,
     },
     /// A bracket where an expression begins; it may be a cast's.
     Paren,

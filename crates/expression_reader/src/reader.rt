@@ -86,8 +86,13 @@ impl ExpressionReader {
             Mode::InMarks { head, done, colors } => {
                 self.in_marks(alloc, head, done, colors, symbol)
             }
-            Mode::AfterAt { head, done, colors } => {
-                Ok(self.after_at(features, head, done, colors, symbol))
+            Mode::AfterAt {
+                head,
+                done,
+                colors,
+                off,
+            } => {
+                Ok(self.after_at(features, head, done, colors, off, symbol))
             }
             Mode::Paren => self.paren(alloc, symbol),
             Mode::ParenName(name) => self.paren_name(alloc, name, symbol),

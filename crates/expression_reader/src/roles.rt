@@ -73,6 +73,7 @@ impl ExpressionReader {
             Symbol::Id(name) => self.name_role(name),
             Symbol::OpenParen => Role::Opens(self.depth() + 1),
             Symbol::This | Symbol::New | Symbol::Dot => Role::Node,
+            Symbol::Bang => Role::Sign,
             _ => Role::Other,
         }
     }

@@ -13,6 +13,7 @@ abbrev pub machine_seen : Machine → State
 machine_seen m =
     record {
       mode = m.mode;
+      format = m.format;
       features = m.features;
       constraints = m.constraints.items;
       formula = m.formula;

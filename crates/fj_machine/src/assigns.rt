@@ -20,7 +20,7 @@ impl<'a> Machine<'a> {
     {
         match symbol {
             Symbol::At => {
-                self.mode = Mode::AfterAt(Node::Assign);
+                self.mode = Mode::AfterAt(Node::Assign, false);
                 true
             }
             Symbol::This => {
@@ -55,7 +55,7 @@ impl<'a> Machine<'a> {
     {
         match symbol {
             Symbol::At => {
-                self.mode = Mode::AfterAt(Node::Assign);
+                self.mode = Mode::AfterAt(Node::Assign, false);
                 true
             }
             Symbol::This => {

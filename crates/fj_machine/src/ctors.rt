@@ -44,7 +44,7 @@ impl<'a> Machine<'a> {
     {
         match symbol {
             Symbol::At => {
-                self.mode = Mode::AfterAt(Node::Send);
+                self.mode = Mode::AfterAt(Node::Send, false);
                 Ok(true)
             }
             Symbol::Id(name) => {
@@ -70,7 +70,7 @@ impl<'a> Machine<'a> {
     {
         match symbol {
             Symbol::At => {
-                self.mode = Mode::AfterAt(Node::Send);
+                self.mode = Mode::AfterAt(Node::Send, false);
                 Ok(true)
             }
             Symbol::Id(name) => {
@@ -92,7 +92,7 @@ impl<'a> Machine<'a> {
     {
         match symbol {
             Symbol::At => {
-                self.mode = Mode::AfterAt(Node::Send);
+                self.mode = Mode::AfterAt(Node::Send, false);
                 Ok(true)
             }
             Symbol::Id(name) => {

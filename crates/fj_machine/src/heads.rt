@@ -1,7 +1,6 @@
-//! The feature line, marks, and the head of a class.
+//! The lines for the format and the features, marks, and the head of a class.
 
-ghost use Rattle.std.specs.Prelude.{◌≡◌, ◌≤◌, true, IfOk, OnOk, bit_or, length};
-ghost use Rattle.cfj_model.specs.Marks.{color_of};
+ghost use Rattle.std.specs.Prelude.{◌≡◌, ◌≤◌, true, IfOk, OnOk, length};
 ghost use Rattle.cfj_words.specs.Names.{is_name};
 ghost use Rattle.cfj_words.specs.Tokens.{Id};
 ghost use Rattle.formula_reader.specs.Machine as formula;
@@ -11,28 +10,20 @@ ghost use Rattle.fj_symbols.specs.Views.{symbol_seen, is_name_token};
 
 use crate::machine::Machine;
 use crate::mode::{Mode, Node};
-use cfj_model::Colors;
-use fj_symbols::{Features, Symbol};
+use cfj_model::{Colors, Format};
+use fj_symbols::Symbol;
 use formula_reader::FormulaReader;
 use std::alloc::{AllocError, Global};
 use std::mem;
+
+/// The word of the line for format two.
+pub(crate) const FORMAT_WORD: &str = "format2";
 
 /// The word that begins the feature line.
 pub(crate) const FEATURES_WORD: &str = "features";
 
 /// The word that begins a constraint.
 pub(crate) const CONSTRAINT_WORD: &str = "constraint";
-
-/// The colours with this mark too; a name that isn't a feature marks nothing.
-fn marked(colors: Colors, features: &Features<'_>, name: &str) -> Colors
-    requires { length features.now ≤ 128 }
-    ensures { result ≡ bit_or colors (color_of features.now name.now) }
-{
-    match features.place(name) {
-        Some(feature) => colors.with(feature as u8),
-        None => colors,
-    }
-}
 
 impl<'a> Machine<'a> {
     pub(crate) fn begin(&mut self, symbol: Symbol<'a>) -> bool
@@ -41,7 +32,7 @@ impl<'a> Machine<'a> {
         match symbol {
             Symbol::Id(name) => self.opens_model(name),
             Symbol::At => {
-                self.mode = Mode::AfterAt(Node::Class);
+                self.mode = Mode::AfterAt(Node::Class, false);
                 true
             }
             Symbol::Class => {
@@ -56,10 +47,21 @@ impl<'a> Machine<'a> {
         }
     }
 
-    /// A feature line and a constraint begin with words that are identifiers elsewhere.
+    /// It is the word of the line for format two, before which no such line stands.
+    pub(crate) fn opens_format(&self, name: &str) -> bool
+        ensures { result ≡ spec.opens_format (machine_seen self.now) name.now }
+    {
+        name == FORMAT_WORD && self.format == Format::One
+    }
+
+    /// The lines of a model begin with words that are identifiers elsewhere.
     fn opens_model(&mut self, name: &str) -> bool
         ensures { GoesIn Mode.Begin result (machine_seen self.old) (Id name.now) (machine_seen self.new) }
     {
+        if self.opens_format(name) {
+            self.mode = Mode::AfterFormat;
+            return true;
+        }
         if name == FEATURES_WORD {
             self.mode = Mode::AfterFeatures;
             return true;
@@ -75,6 +77,19 @@ impl<'a> Machine<'a> {
         }
         self.mode = Mode::InConstraint;
         true
+    }
+
+    pub(crate) fn after_format(&mut self, symbol: Symbol<'a>) -> bool
+        ensures { GoesIn Mode.AfterFormat result (machine_seen self.old) (symbol_seen symbol.entry) (machine_seen self.new) }
+    {
+        match symbol {
+            Symbol::Semicolon => {
+                self.format = Format::Two;
+                self.mode = Mode::Begin;
+                true
+            }
+            _ => false,
+        }
     }
 
     pub(crate) fn after_features(
@@ -180,7 +195,7 @@ impl<'a> Machine<'a> {
     {
         match symbol {
             Symbol::At => {
-                self.mode = Mode::AfterAt(Node::Class);
+                self.mode = Mode::AfterAt(Node::Class, false);
                 true
             }
             Symbol::Class => {
@@ -195,24 +210,28 @@ impl<'a> Machine<'a> {
         }
     }
 
-    pub(crate) fn after_at(&mut self, node: Node, symbol: Symbol<'a>) -> bool
+    pub(crate) fn after_at(&mut self, node: Node, off: bool, symbol: Symbol<'a>) -> bool
         requires { length self.old.features ≤ 128 }
-        ensures { GoesIn (Mode.AfterAt node) result (machine_seen self.old) (symbol_seen symbol.entry) (machine_seen self.new) }
+        ensures { GoesIn (Mode.AfterAt node off) result (machine_seen self.old) (symbol_seen symbol.entry) (machine_seen self.new) }
     {
         match symbol {
             Symbol::Id(name) => {
-                self.add_mark(node, name);
+                self.add_mark(node, off, name);
+                true
+            }
+            Symbol::Bang if !off => {
+                self.mode = Mode::AfterAt(node, true);
                 true
             }
             _ => false,
         }
     }
 
-    fn add_mark(&mut self, node: Node, name: &str)
+    fn add_mark(&mut self, node: Node, off: bool, name: &str)
         requires { length self.old.features ≤ 128 }
-        ensures { machine_seen self.new ≡ spec.with_mark node (machine_seen self.old) name.now }
+        ensures { machine_seen self.new ≡ spec.with_mark node off (machine_seen self.old) name.now }
     {
-        self.colors = marked(self.colors, &self.features, name);
+        self.colors = self.features.marked(self.colors, name, off);
         self.mode = Mode::AfterMark(node);
     }
 
@@ -221,7 +240,7 @@ impl<'a> Machine<'a> {
     {
         match symbol {
             Symbol::At => {
-                self.mode = Mode::AfterAt(Node::Class);
+                self.mode = Mode::AfterAt(Node::Class, false);
                 true
             }
             Symbol::Class => {

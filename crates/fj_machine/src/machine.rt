@@ -5,11 +5,11 @@ ghost use Rattle.cfj_words.specs.Names.{is_name};
 ghost use Rattle.cfj_words.specs.Tokens.{Id};
 ghost use Rattle.fj_machine.specs.Machine as spec;
 
-use crate::heads::{CONSTRAINT_WORD, FEATURES_WORD};
+use crate::heads::{CONSTRAINT_WORD, FEATURES_WORD, FORMAT_WORD};
 use crate::mode::{Mode, Node};
 use crate::role::role_of;
 use cfj_model::{
-    Class, Colors, Constructor, FeatureModel, Field, Formula, Items, Method, Param, Sent,
+    Class, Colors, Constructor, FeatureModel, Field, Format, Formula, Items, Method, Param, Sent,
 };
 use expression_reader::{ExpressionReader, Settling};
 use fj_symbols::{Features, Role, Symbol};
@@ -31,12 +31,13 @@ pub(crate) fn no_ctor(alloc: Global) -> Constructor
     }
 }
 
-/// The features, constraints and classes that are read, the formula in hand, the class in hand with its colours, the lists in
+/// The format, features, constraints and classes that are read, the formula in hand, the class in hand with its colours, the lists in
 /// hand of its constructor or of a method, the constructor that is read, the method in hand with its colours and the
 /// expression in hand, the colours of the marks in hand, the type and the name that were read last, and what was read last.
 #[derive(Drop)]
 pub struct Machine<'a> {
     pub mode: Mode,
+    pub format: Format,
     pub features: Features<'a>,
     pub constraints: Vec<Formula>,
     pub formula: FormulaReader,
@@ -74,21 +75,23 @@ impl<'a> Machine<'a> {
     pub fn new(alloc: Global) -> Machine<'a>
         ensures { machine_seen result ≡ spec.start }
     {
-        Machine::beginning(alloc, Mode::Begin, Features::new(alloc), NO_NAME)
+        Machine::beginning(alloc, Mode::Begin, Format::One, Features::new(alloc), NO_NAME)
     }
 
-    /// In this mode, behind these features and within the class of this name; no memory is taken.
+    /// In this mode and this format, behind these features and within the class of this name; no memory is taken.
     pub fn beginning(
         alloc: Global,
         mode: Mode,
+        format: Format,
         features: Features<'a>,
         name: &'a str,
     ) -> Machine<'a>
         requires { is_name name.now ≡ true }
-        ensures { machine_seen result ≡ record (spec.behind features.entry [] []) { mode = mode; name = name.entry.now } }
+        ensures { machine_seen result ≡ record (spec.behind format features.entry [] []) { mode = mode; name = name.entry.now } }
     {
         Machine {
             mode,
+            format,
             features,
             constraints: Vec::new(alloc),
             formula: FormulaReader::new(alloc),
@@ -112,13 +115,14 @@ impl<'a> Machine<'a> {
         }
     }
 
-    /// The features, constraints and classes that are read.
+    /// The format, features, constraints and classes that are read.
     pub fn take_parts(&mut self, alloc: Global) -> (FeatureModel, Vec<Class>)
-        ensures { of_parts result.0.features result.0.constraints result.1.items ≡ spec.stands_for (machine_seen self.old) }
+        ensures { of_parts result.0.format result.0.features result.0.constraints result.1.items ≡ spec.stands_for (machine_seen self.old) }
     {
         let features = mem::replace(&mut self.features, Features::new(alloc));
         let constraints = mem::replace(&mut self.constraints, Vec::new(alloc));
         let model = FeatureModel {
+            format: self.format,
             features: Items::of(features.into_names()),
             constraints: Items::of(constraints),
         };
@@ -203,7 +207,9 @@ impl<'a> Machine<'a> {
         ensures { result ≡ is_some (spec.step (machine_seen self.now) (Id name.now)) }
     {
         match self.mode {
-            Mode::Begin => name == FEATURES_WORD || name == CONSTRAINT_WORD,
+            Mode::Begin => {
+                self.opens_format(name) || name == FEATURES_WORD || name == CONSTRAINT_WORD
+            }
             Mode::Start => name == CONSTRAINT_WORD,
             Mode::InConstraint => self.formula.takes_name(),
             Mode::InExpression => self.expression.takes_name(),
@@ -221,13 +227,14 @@ impl<'a> Machine<'a> {
     {
         match self.mode {
             Mode::Begin => Ok(self.begin(symbol)),
+            Mode::AfterFormat => Ok(self.after_format(symbol)),
             Mode::AfterFeatures => self.after_features(alloc, symbol),
             Mode::AfterFeature => Ok(self.after_feature(symbol)),
             Mode::AfterFeatureComma => self.after_feature_comma(alloc, symbol),
             Mode::Start => Ok(self.at_start(symbol)),
             Mode::InConstraint => self.in_constraint(alloc, symbol),
             Mode::BetweenClasses => Ok(self.between_classes(symbol)),
-            Mode::AfterAt(node) => Ok(self.after_at(node, symbol)),
+            Mode::AfterAt(node, off) => Ok(self.after_at(node, off, symbol)),
             Mode::AfterMark(node) => self.after_mark(alloc, node, symbol),
             Mode::AfterMarkedType => Ok(self.after_marked_type(symbol)),
             Mode::AfterClass => Ok(self.after_class(symbol)),

@@ -22,7 +22,7 @@ impl<'a> Machine<'a> {
     {
         match symbol {
             Symbol::At => {
-                self.mode = Mode::AfterAt(Node::Member);
+                self.mode = Mode::AfterAt(Node::Member, false);
                 true
             }
             Symbol::Id(of) => {
@@ -40,7 +40,7 @@ impl<'a> Machine<'a> {
     {
         match symbol {
             Symbol::At => {
-                self.mode = Mode::AfterAt(Node::Member);
+                self.mode = Mode::AfterAt(Node::Member, false);
                 true
             }
             Symbol::Id(of) => {

@@ -27,7 +27,7 @@ impl<'a> Machine<'a> {
     {
         match symbol {
             Symbol::At => {
-                self.mode = Mode::AfterAt(Node::Method);
+                self.mode = Mode::AfterAt(Node::Method, false);
                 Ok(true)
             }
             Symbol::Id(of) => {
@@ -49,7 +49,7 @@ impl<'a> Machine<'a> {
     {
         match symbol {
             Symbol::At => {
-                self.mode = Mode::AfterAt(Node::Method);
+                self.mode = Mode::AfterAt(Node::Method, false);
                 true
             }
             Symbol::Id(of) => {

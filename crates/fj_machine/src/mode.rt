@@ -32,8 +32,10 @@ pub enum Node {
 /// What was read last, which says what may follow.
 #[derive(Clone, Copy)]
 pub enum Mode {
-    /// Nothing.
+    /// Nothing, or the line for format two.
     Begin,
+    /// The word of the line for format two.
+    AfterFormat,
     /// The word that begins the feature line.
     AfterFeatures,
     /// The name of a feature.
@@ -46,8 +48,8 @@ pub enum Mode {
     InConstraint,
     /// A class.
     BetweenClasses,
-    /// The sign of a mark.
-    AfterAt(Node),
+    /// The `@` of a mark, or its `!`: then it is so.
+    AfterAt(Node, bool),
     /// A mark.
     AfterMark(Node),
     /// The type of a field with marks.
@@ -126,7 +128,7 @@ impl Mode {
             | Mode::Start
             | Mode::AfterFeatures
             | Mode::AfterFeatureComma
-            | Mode::AfterAt(_)
+            | Mode::AfterAt(..)
             | Mode::AfterMark(Node::Member)
             | Mode::AfterMark(Node::Method)
             | Mode::AfterMark(Node::Param(_))

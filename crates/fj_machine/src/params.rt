@@ -20,7 +20,7 @@ impl<'a> Machine<'a> {
     {
         match symbol {
             Symbol::At => {
-                self.mode = Mode::AfterAt(Node::Param(owner));
+                self.mode = Mode::AfterAt(Node::Param(owner), false);
                 true
             }
             Symbol::Id(of) => {
@@ -42,7 +42,7 @@ impl<'a> Machine<'a> {
     {
         match symbol {
             Symbol::At => {
-                self.mode = Mode::AfterAt(Node::Param(owner));
+                self.mode = Mode::AfterAt(Node::Param(owner), false);
                 true
             }
             Symbol::Id(of) => {
@@ -60,7 +60,7 @@ impl<'a> Machine<'a> {
     {
         match symbol {
             Symbol::At => {
-                self.mode = Mode::AfterAt(Node::Param(owner));
+                self.mode = Mode::AfterAt(Node::Param(owner), false);
                 true
             }
             Symbol::Id(of) => {

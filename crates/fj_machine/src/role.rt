@@ -4,6 +4,7 @@ ghost use Rattle.std.specs.Prelude.{◌≡◌};
 ghost use Rattle.fj_machine.specs.Machine.{name_role, token_role};
 ghost use Rattle.fj_symbols.specs.Views.{role_seen, symbol_seen};
 
+use crate::heads::FORMAT_WORD;
 use crate::mode::{Mode, Node, Owner};
 use fj_symbols::{Role, Symbol};
 
@@ -12,8 +13,9 @@ fn name_role<'a>(mode: Mode, name: &'a str) -> Role<'a>
     ensures { role_seen result ≡ name_role mode name.now }
 {
     match mode {
+        Mode::Begin if name == FORMAT_WORD => Role::FormatLine,
         Mode::AfterFeatures | Mode::AfterFeatureComma => Role::FeatureName(name),
-        Mode::AfterAt(_) => Role::MarkName(name),
+        Mode::AfterAt(..) => Role::MarkName(name),
         Mode::AfterClass => Role::ClassName(name),
         Mode::AfterType | Mode::AfterMarkedType => Role::FieldName(name),
         Mode::AfterParamType(Owner::Constructor) => Role::ParamName(name),
@@ -32,6 +34,7 @@ pub fn role_of<'a>(mode: Mode, symbol: Symbol<'a>) -> Role<'a>
 {
     match symbol {
         Symbol::Id(name) => name_role(mode, name),
+        Symbol::Bang => Role::Sign,
         _ => Role::Other,
     }
 }

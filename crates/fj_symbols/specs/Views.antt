@@ -50,9 +50,11 @@ token_read Reserved text = token.word_token text
 token_read Mark text = token.mark_token text
 
 abbrev pub role_seen : Role → role.Role
+role_seen r.FormatLine = role.format_line
 role_seen (r.FeatureName w) = role.feature_name w.now
 role_seen (r.MarkName w) = role.mark_name w.now
 role_seen (r.FormulaName w) = role.formula_name w.now
+role_seen (r.KnownName w) = role.known_name w.now
 role_seen (r.ClassName w) = role.class_name w.now
 role_seen (r.FieldName w) = role.field_name w.now
 role_seen (r.MethodName w) = role.method_name w.now
@@ -62,6 +64,7 @@ role_seen (r.SentName w) = role.sent_name w.now
 role_seen (r.AssignedName w) = role.assigned_name w.now
 role_seen (r.VarName w) = role.var_name w.now
 role_seen (r.UsedName w) = role.used_name w.now
+role_seen r.Sign = role.sign
 role_seen r.FormulaNode = role.formula_node
 role_seen (r.FormulaOpens n) = role.formula_opens n
 role_seen (r.Opens n) = role.opens n
@@ -74,6 +77,7 @@ abbrev pub is_identifier_role : role.Role → Bool
 is_identifier_role (role.feature_name w) = is_identifier w
 is_identifier_role (role.mark_name w) = is_identifier w
 is_identifier_role (role.formula_name w) = is_identifier w
+is_identifier_role (role.known_name w) = is_identifier w
 is_identifier_role (role.class_name w) = is_identifier w
 is_identifier_role (role.field_name w) = is_identifier w
 is_identifier_role (role.method_name w) = is_identifier w

@@ -1,12 +1,13 @@
 //! The features of a project, with their numbers.
 
-ghost use Rattle.std.specs.Prelude.{◌≡◌, ◌<◌, [], ◌∷◌, ◌++◌, true, IfSome, OnOk, length, position};
+ghost use Rattle.std.specs.Prelude.{◌≡◌, ◌<◌, ◌≤◌, [], ◌∷◌, ◌++◌, true, IfSome, OnOk, Some, length, position};
 ghost use Rattle.std.specs.Str.{bytes_eq};
 ghost use Rattle.cfj_words.specs.Names.{is_name};
+ghost use Rattle.cfj_model.specs.Marks.{marked, marked_at};
 ghost use Rattle.fj_symbols.specs.Places.{ArePlaced};
 
 use crate::names::name_of;
-use cfj_model::Name;
+use cfj_model::{Colors, Name};
 use indexmap::IndexMap;
 use std::alloc::{AllocError, Global};
 use std::marker::Model;
@@ -48,6 +49,17 @@ impl<'a> Features<'a> {
         self.places.get(name).copied()
     }
 
+    /// The colours with one more mark; of marks of one feature the first counts, and a name that isn't a feature's marks nothing.
+    pub fn marked(&self, colors: Colors, name: &str, off: bool) -> Colors
+        requires { length self.now ≤ 128 }
+        ensures { result ≡ marked self.now colors (record { off = off; name = name.now }) }
+    {
+        match self.place(name) {
+            Some(feature) => with_new(colors, feature as u8, off),
+            None => colors,
+        }
+    }
+
     /// One more feature.
     pub fn add(&mut self, alloc: Global, name: &'a str) -> Result<(), AllocError>
         requires { is_name name.now ≡ true }
@@ -75,5 +87,17 @@ impl<'a> Features<'a> {
     {
         let Features { names, places: _ } = self;
         names
+    }
+}
+
+/// The colours with a mark of this feature, where it isn't marked yet.
+fn with_new(colors: Colors, feature: u8, off: bool) -> Colors
+    requires { feature < 128 }
+    ensures { result ≡ marked_at (Some feature) off colors }
+{
+    if colors.is_marked(feature) {
+        colors
+    } else {
+        colors.with(feature, off)
     }
 }

@@ -4,12 +4,16 @@
 /// with the token's own.
 #[derive(Clone, Copy)]
 pub enum Role<'a> {
+    /// The word of the line for format two.
+    FormatLine,
     /// The name of a feature, where it is declared.
     FeatureName(&'a str),
     /// The name in a mark.
     MarkName(&'a str),
     /// The name of a feature in a formula.
     FormulaName(&'a str),
+    /// The name of a feature elsewhere.
+    KnownName(&'a str),
     /// The name of a class.
     ClassName(&'a str),
     /// The name of a field.
@@ -28,6 +32,8 @@ pub enum Role<'a> {
     VarName(&'a str),
     /// Any other identifier.
     UsedName(&'a str),
+    /// The `!` of a mark.
+    Sign,
     /// A constant of a formula, or a connective that isn't open over what follows.
     FormulaNode,
     /// A `!`, or a `->`.

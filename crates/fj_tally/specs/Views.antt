@@ -10,6 +10,7 @@ use Rattle.fj_tally.specs.declared.tally.Tally.{Tally}
 abbrev pub tally_seen : Tally → role.Tally
 tally_seen t =
     record {
+      format = t.format;
       features = t.features;
       formula_nodes = t.formula_nodes;
       marks = t.marks;

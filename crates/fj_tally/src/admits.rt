@@ -10,6 +10,7 @@ use crate::rules::{
     MOST_NODES, MOST_PARAMS, is_deep, is_long,
 };
 use crate::tally::Tally;
+use cfj_model::Format;
 use fj_symbols::Role;
 use std::alloc::AllocError;
 
@@ -37,9 +38,11 @@ impl<'a> Tally<'a> {
         ensures { IfOk result (Admits (tally_seen self.old) (role_seen role.entry) (tally_seen self.new)) }
     {
         match role {
+            Role::FormatLine => Ok(self.admit_format()),
             Role::FeatureName(name) => self.admit_feature(name),
             Role::MarkName(name) => self.admit_mark(name),
             Role::FormulaName(name) => Ok(self.admit_formula_name(name)),
+            Role::KnownName(name) => Ok(self.admit_known(name)),
             Role::ClassName(name) => self.admit_class(name),
             Role::FieldName(name) => Ok(self.admit_field(name)),
             Role::MethodName(name) => Ok(self.admit_method(name)),
@@ -49,6 +52,7 @@ impl<'a> Tally<'a> {
             Role::AssignedName(name) => Ok(self.admit_assigned(name)),
             Role::VarName(name) => Ok(self.admit_var(name)),
             Role::UsedName(name) => Ok(self.admit_used(name)),
+            Role::Sign => Ok(self.admit_sign()),
             Role::FormulaNode => Ok(self.admit_formula_node()),
             Role::FormulaOpens(depth) => Ok(self.admit_formula_opens(depth)),
             Role::Opens(depth) => Ok(self.admit_opens(depth)),
@@ -56,6 +60,13 @@ impl<'a> Tally<'a> {
             Role::Node => Ok(self.admit_node()),
             Role::Other => Ok(true),
         }
+    }
+
+    fn admit_format(&mut self) -> bool
+        ensures { Admits (tally_seen self.old) spec.format_line (tally_seen self.new) result }
+    {
+        self.format = Format::Two;
+        true
     }
 
     /// Counts one more feature, which breaks nothing.
@@ -97,6 +108,18 @@ impl<'a> Tally<'a> {
         }
         self.formula_nodes += 1;
         true
+    }
+
+    fn admit_known(&mut self, name: &str) -> bool
+        ensures { Admits (tally_seen self.old) (spec.known_name name.now) (tally_seen self.new) result }
+    {
+        !is_long(name) && !self.is_unknown(name)
+    }
+
+    fn admit_sign(&mut self) -> bool
+        ensures { Admits (tally_seen self.old) spec.sign (tally_seen self.new) result }
+    {
+        self.has_signs()
     }
 
     fn admit_class(&mut self, name: &'a str) -> Result<bool, AllocError>

@@ -2,12 +2,13 @@
 
 ghost use Rattle.std.specs.Prelude.{◌≡◌, ◌∷◌, [], Some, true, not, is_some, IfOk};
 ghost use Rattle.cfj_words.specs.Names.{is_among, is_identifier, is_name};
+ghost use Rattle.cfj_model.specs.Coloring.{is_two};
 ghost use Rattle.cfj_model.specs.Roles as spec;
 ghost use Rattle.fj_tally.specs.Views.{broken_in_list, tally_seen};
 ghost use Rattle.fj_symbols.specs.Views.{is_identifier_role, role_seen};
 
 use crate::tally::Tally;
-use cfj_model::{FaultKind, LimitKind, MOST_NAME_BYTES};
+use cfj_model::{FaultKind, Format, LimitKind, MOST_NAME_BYTES};
 use fj_symbols::{Role, name_of};
 use std::alloc::{AllocError, Global};
 
@@ -84,9 +85,11 @@ impl<'a> Tally<'a> {
         ensures { IfOk result (λ fault. fault ≡ spec.broken_by (tally_seen self.now) (role_seen role.entry)) }
     {
         match role {
+            Role::FormatLine => Ok(None),
             Role::FeatureName(name) => self.broken_by_feature(alloc, name),
             Role::MarkName(name) => self.broken_by_mark(alloc, name),
             Role::FormulaName(name) => self.broken_by_formula_name(alloc, name),
+            Role::KnownName(name) => self.broken_by_known(alloc, name),
             Role::ClassName(name) => self.broken_by_class(alloc, name),
             Role::FieldName(name) => Ok(self.broken_by_field(name)),
             Role::MethodName(name) => Ok(self.broken_by_method(name)),
@@ -96,6 +99,7 @@ impl<'a> Tally<'a> {
             Role::AssignedName(name) => Ok(self.broken_in_list(name, self.assigns)),
             Role::VarName(name) => Ok(self.broken_by_var(name)),
             Role::UsedName(name) => Ok(self.broken_by_used(name)),
+            Role::Sign => Ok(self.broken_by_sign()),
             Role::FormulaNode => Ok(self.broken_by_formula()),
             Role::FormulaOpens(depth) => Ok(self.broken_by_formula_opens(depth)),
             Role::Opens(depth) => Ok(self.broken_by_opens(depth)),
@@ -173,6 +177,38 @@ impl<'a> Tally<'a> {
             return Ok(Some(FaultKind::NoFeature(name_of(alloc, name)?)));
         }
         Ok(self.broken_by_formula())
+    }
+
+    fn broken_by_known(&self, alloc: Global, name: &str) -> Result<Option<FaultKind>, AllocError>
+        requires { is_identifier name.now ≡ true }
+        ensures { IfOk result (λ fault. fault ≡ spec.broken_by (tally_seen self.now) (spec.known_name name.now)) }
+    {
+        if is_long(name) {
+            return Ok(Some(FaultKind::Limit(LimitKind::Name)));
+        }
+        if self.is_unknown(name) {
+            return Ok(Some(FaultKind::NoFeature(name_of(alloc, name)?)));
+        }
+        Ok(None)
+    }
+
+    /// Marks may have a `!`.
+    pub(crate) fn has_signs(&self) -> bool
+        ensures { result ≡ is_two self.now.format }
+    {
+        match self.format {
+            Format::One => false,
+            Format::Two => true,
+        }
+    }
+
+    fn broken_by_sign(&self) -> Option<FaultKind>
+        ensures { result ≡ spec.broken_by (tally_seen self.now) spec.sign }
+    {
+        if self.has_signs() {
+            return None;
+        }
+        Some(FaultKind::Unexpected)
     }
 
     fn broken_by_formula(&self) -> Option<FaultKind>

@@ -4,13 +4,15 @@ ghost use Rattle.std.specs.Prelude.{◌≡◌};
 ghost use Rattle.cfj_model.specs.Roles as spec;
 
 use crate::met::Met;
+use cfj_model::Format;
 use std::alloc::Global;
 
-/// What was met before a place: all features and class names, the marks of the node in hand, the names of the parameters of the method
+/// What was met before a place: the format, all features and class names, the marks of the node in hand, the names of the parameters of the method
 /// in hand, and how many items each list of the class in hand has and how many nodes stand in all formulas and in the body in hand, with
 /// the size.
 #[derive(Drop)]
 pub struct Tally<'a> {
+    pub format: Format,
     pub features: Met<'a>,
     pub formula_nodes: usize,
     pub marks: Met<'a>,
@@ -33,6 +35,7 @@ impl<'a> Tally<'a> {
         ensures { tally_seen result ≡ spec.nothing }
     {
         Tally {
+            format: Format::One,
             features: Met::new(alloc),
             formula_nodes: 0,
             marks: Met::new(alloc),

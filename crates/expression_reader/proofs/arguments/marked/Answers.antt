@@ -1,8 +1,0 @@
-use Rattle.std.proofs.Common.{ℕ, Option, bit_or, sym, ap, ◌∙◌}
-use Rattle.std.specs.Int.Bits.{or_zero_r}
-use Rattle.cfj_model.specs.Marks.{color_at}
-use Rattle.expression_reader.proofs.arguments.marked.Goals as goal
-
--- no feature has this name
-pub returns-in-None : goal.returns-in-None
-returns-in-None c = sym (or_zero_r c.args.colors) ∙ ap (λ (o : Option ℕ). bit_or c.args.colors (color_at o)) (sym c.in-None.is ∙ c.place.ensures.place)

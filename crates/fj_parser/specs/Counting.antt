@@ -7,7 +7,7 @@ use Rattle.expression_reader.specs.Reading.{owed}
 use Rattle.fj_machine.specs.Machine.{State}
 use Rattle.fj_machine.specs.declared.mode.Node.TheVariants as node
 use Rattle.fj_machine.specs.declared.mode.Mode.{Mode}
-use Rattle.fj_machine.specs.declared.mode.Mode.TheVariants.{Begin, AfterFeatures, AfterFeature, AfterFeatureComma, Start, InConstraint, BetweenClasses, AfterAt, AfterMark, AfterClass, InMethods, AfterResult, AfterMethodName, InExpression, AfterBody, AtEnd}
+use Rattle.fj_machine.specs.declared.mode.Mode.TheVariants.{Begin, AfterFormat, AfterFeatures, AfterFeature, AfterFeatureComma, Start, InConstraint, BetweenClasses, AfterAt, AfterMark, AfterClass, InMethods, AfterResult, AfterMethodName, InExpression, AfterBody, AtEnd}
 
 -- The places of a text, by what may be in hand there: before a class's name nothing of a class; behind a constructor, before a
 -- method's parameters, no parameters; before a method's body no expression; and in it, or at the end of the text, anything.
@@ -20,17 +20,18 @@ pub data Place : Type 0 where
 -- the place where a mode stands
 abbrev pub place_of : Mode → Place
 place_of Begin = before_class
+place_of AfterFormat = before_class
 place_of AfterFeatures = before_class
 place_of AfterFeature = before_class
 place_of AfterFeatureComma = before_class
 place_of Start = before_class
 place_of InConstraint = before_class
 place_of BetweenClasses = before_class
-place_of (AfterAt node.Class) = before_class
+place_of (AfterAt node.Class off) = before_class
 place_of (AfterMark node.Class) = before_class
 place_of AfterClass = before_class
 place_of InMethods = before_method
-place_of (AfterAt node.Method) = before_method
+place_of (AfterAt node.Method off) = before_method
 place_of (AfterMark node.Method) = before_method
 place_of AfterResult = before_method
 place_of AfterMethodName = before_method

@@ -5,6 +5,7 @@ use Rattle.cfj_words.specs.Tokens.{Token, Semicolon, End}
 use Rattle.cfj_model.specs.Roles.{Tally}
 use Rattle.fj_parser.specs.Goals.{step_for, reader_for}
 use Rattle.cfj_model.specs.Languages.{with_features}
+use Rattle.cfj_model.specs.declared.feature_model.Format.{Format}
 use Rattle.fj_machine.specs.Machine.{State, step_in, to, with_single_field}
 use Rattle.fj_parser.specs.declared.goal.Goal.{Goal}
 use Rattle.fj_machine.specs.declared.mode.Mode.{Mode}
@@ -32,13 +33,14 @@ GoesFor g false old t new = step_for g old.mode old t ≡ None
 
 -- the machine that reads a part, and what counts as met before it
 abbrev pub reader_of : Part → Reader
-reader_of p = reader_for p.goal p.features.now p.class.now
+reader_of p = reader_for p.goal p.format p.features.now p.class.now
 
 abbrev pub met_of : Part → Tally
-met_of p = with_features p.features.now
+met_of p = with_features p.format p.features.now
 
--- the part is read for this goal, with these features and for the class of this name
-pub record IsPart (p : Part) (g : Goal) (fs : List (List ℕ)) (c : List ℕ) : Type 0 where
+-- the part is read for this goal, in this format, with these features and for the class of this name
+pub record IsPart (p : Part) (g : Goal) (f : Format) (fs : List (List ℕ)) (c : List ℕ) : Type 0 where
   pub goal : p.goal ≡ g
+  pub format : p.format ≡ f
   pub features : p.features.now ≡ fs
   pub class : p.class.now ≡ c

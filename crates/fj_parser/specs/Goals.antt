@@ -5,6 +5,7 @@ use Rattle.std.specs.Str.{bytes_eq}
 use Rattle.cfj_model.specs.declared.class.Class.{Class}
 use Rattle.cfj_model.specs.declared.class.Field.{Field}
 use Rattle.cfj_model.specs.declared.class.Method.{Method}
+use Rattle.cfj_model.specs.declared.feature_model.Format.{Format}
 use Rattle.cfj_words.specs.Tokens.{Token, Id, ClassWord, OpenParen, Semicolon, At, End}
 use Rattle.fj_machine.specs.Readers.{Reader}
 use Rattle.fj_machine.specs.Machine.{State, behind, start, step_in, emitted, pending, takes_name_in, to, with_single_field}
@@ -13,17 +14,17 @@ use Rattle.fj_parser.specs.declared.goal.Goal.TheVariants as goal
 use Rattle.fj_machine.specs.declared.mode.Mode.{Mode}
 use Rattle.fj_machine.specs.declared.mode.Mode.TheVariants.{Begin, Start, BetweenClasses, InMembers, AfterType, InMethods, AfterMethodName, InExpression, AfterBody, AtEnd}
 
--- Before the first token: of a class or a member with these features, of a constructor of the class of this name too.
-abbrev pub start_for : Goal → List (List ℕ) → List ℕ → State
-start_for goal.Project features class = start
-start_for goal.Model features class = start
-start_for goal.Class features class = behind features [] []
-start_for goal.Constructor features class = record (behind features [] []) { mode = InMembers; name = class }
-start_for goal.Field features class = record (behind features [] []) { mode = InMembers }
-start_for goal.Method features class = record (behind features [] []) { mode = InMethods }
-start_for goal.Member features class = record (behind features [] []) { mode = InMethods }
-start_for goal.Name features class = record (behind features [] []) { mode = InMembers }
-start_for goal.Expression features class = record (behind features [] []) { mode = InExpression }
+-- Before the first token: of a class or a member in this format and with these features, of a constructor of the class of this name too.
+abbrev pub start_for : Goal → Format → List (List ℕ) → List ℕ → State
+start_for goal.Project format features class = start
+start_for goal.Model format features class = start
+start_for goal.Class format features class = behind format features [] []
+start_for goal.Constructor format features class = record (behind format features [] []) { mode = InMembers; name = class }
+start_for goal.Field format features class = record (behind format features [] []) { mode = InMembers }
+start_for goal.Method format features class = record (behind format features [] []) { mode = InMethods }
+start_for goal.Member format features class = record (behind format features [] []) { mode = InMethods }
+start_for goal.Name format features class = record (behind format features [] []) { mode = InMembers }
+start_for goal.Expression format features class = record (behind format features [] []) { mode = InExpression }
 
 -- a member that begins: a mark or a type
 abbrev pub begins_member : Mode → State → Token → Option State
@@ -91,6 +92,6 @@ takes_name_for goal.Member InMethods s = none_yet s.fields && none_yet s.methods
 takes_name_for goal.Name AfterType s = false
 takes_name_for g m s = takes_name_in m s
 
-abbrev pub reader_for : Goal → List (List ℕ) → List ℕ → Reader
-reader_for g features class =
-    record { State = State; start = start_for g features class; step = λ s t. step_for g s.mode s t; emitted = emitted; pending = pending; takes_name = λ s. takes_name_for g s.mode s }
+abbrev pub reader_for : Goal → Format → List (List ℕ) → List ℕ → Reader
+reader_for g format features class =
+    record { State = State; start = start_for g format features class; step = λ s t. step_for g s.mode s t; emitted = emitted; pending = pending; takes_name = λ s. takes_name_for g s.mode s }

@@ -1,6 +1,7 @@
 //! The text of an expression.
 
 ghost use Rattle.std.specs.Prelude.{◌≡◌, ℕ, true, IfOk, Err};
+ghost use Rattle.cfj_model.specs.Coloring.{Palette};
 ghost use Rattle.cfj_model.specs.declared.expr.Expr.{Expr};
 ghost use Rattle.cfj_model.specs.Expressions.{slots};
 ghost use Rattle.cfj_model.specs.Faults.{IsFirstFault};
@@ -32,7 +33,7 @@ pub fn parse_expr(alloc: Global, text: &str) -> Result<Expr, ParseFault>
     ensures read { IfOk result (λ expr. IsTextOf expressions text.now expr) }
     ensures only { (expr : Expr) → IsTextOf expressions text.now expr → IsReadAs expr result }
     // A project of any features keeps it as a body, and it is numbered.
-    ensures kept { IfOk result (λ expr. (features : ℕ) → is_body features expr ≡ true) }
+    ensures kept { IfOk result (λ expr. (palette : Palette) → is_body palette expr ≡ true) }
     ensures numbered { IfOk result (λ expr. run_from 0 (slots expr) ≡ true) }
     // A fault is the first one, and every first fault is told.
     ensures fault { (at : ℕ) (kind : _) → result ≡ Err (ParseFault.At at kind) → IsFirstFault expressions text.now at kind }

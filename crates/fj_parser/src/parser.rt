@@ -18,7 +18,7 @@ use std::sync::Arc;
 
 /// The feature model and the classes of a text.
 fn read_parts(alloc: Global, text: &str) -> Result<(FeatureModel, Vec<Class>), ParseFault>
-    ensures read { IfOk result (λ parts. IsTextOf projects text.now (of_parts parts.0.features parts.0.constraints parts.1.items)) }
+    ensures read { IfOk result (λ parts. IsTextOf projects text.now (of_parts parts.0.format parts.0.features parts.0.constraints parts.1.items)) }
     ensures fault { (at : ℕ) (kind : _) → result ≡ Err (ParseFault.At at kind) → IsFirstFault projects text.now at kind }
 {
     let machine = read_text(alloc, Part::alone(Goal::Project), text)?;

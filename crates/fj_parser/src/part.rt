@@ -5,16 +5,17 @@ ghost use Rattle.cfj_words.specs.Names.{is_name};
 ghost use Rattle.cfj_model.specs.ProductLines.{are_distinct, most_features};
 
 use crate::goal::Goal;
-use cfj_model::{FeatureModel, Name};
+use cfj_model::{FeatureModel, Format, Name};
 use fj_machine::{Machine, Mode, NO_NAME};
 use fj_symbols::Features;
 use fj_tally::Tally;
 use std::alloc::{AllocError, Global};
 
-/// What is to be read by itself: the features that its marks may name, and the class where it is a constructor.
+/// What is to be read by itself: the format and the features that its marks may have, and the class where it is a constructor.
 #[derive(Clone, Copy)]
 pub struct Part<'a> {
     pub goal: Goal,
+    pub format: Format,
     pub features: &'a [Name],
     pub class: &'a str,
     ghost few: { nat_le (length features.now) most_features ≡ true },
@@ -43,10 +44,11 @@ impl<'a> Part<'a> {
 
     /// What stands without a feature model.
     pub fn alone(goal: Goal) -> Part<'a>
-        ensures { IsPart result goal [] unnamed }
+        ensures { IsPart result goal Format.One [] unnamed }
     {
         Part {
             goal,
+            format: Format::One,
             features: &[],
             class: NO_NAME,
         }
@@ -56,10 +58,11 @@ impl<'a> Part<'a> {
     pub fn under(goal: Goal, model: &'a FeatureModel) -> Part<'a>
         requires few { nat_le (length model.now.features) most_features ≡ true }
         requires distinct { are_distinct model.now.features ≡ true }
-        ensures { IsPart result goal model.now.features unnamed }
+        ensures { IsPart result goal model.now.format model.now.features unnamed }
     {
         Part {
             goal,
+            format: model.format,
             features: model.features.slice(),
             class: NO_NAME,
         }
@@ -69,18 +72,19 @@ impl<'a> Part<'a> {
     pub fn constructor(model: &'a FeatureModel, class: &'a Name) -> Part<'a>
         requires few { nat_le (length model.now.features) most_features ≡ true }
         requires distinct { are_distinct model.now.features ≡ true }
-        ensures { IsPart result Goal.Constructor model.now.features class.now }
+        ensures { IsPart result Goal.Constructor model.now.format model.now.features class.now }
     {
         Part {
             goal: Goal::Constructor,
+            format: model.format,
             features: model.features.slice(),
             class: class.text(),
         }
     }
 
-    /// The machine before the first token; a project and a model bring their features.
+    /// The machine before the first token; a project and a model bring their own format and features.
     pub fn machine(self, alloc: Global) -> Result<Machine<'a>, AllocError>
-        ensures { IfOk result (λ machine. machine_seen machine ≡ start_for self.entry.goal self.entry.features.now self.entry.class.now) }
+        ensures { IfOk result (λ machine. machine_seen machine ≡ start_for self.entry.goal self.entry.format self.entry.features.now self.entry.class.now) }
     {
         match self.goal {
             Goal::Project | Goal::Model => Ok(Machine::new(alloc)),
@@ -94,24 +98,25 @@ impl<'a> Part<'a> {
 
     /// The machine before the first token, in a box, so that it drops in one step on each way out of what owns it.
     pub fn boxed(self, alloc: Global) -> Result<Box<Machine<'a>>, AllocError>
-        ensures { IfOk result (λ machine. machine_seen machine.value ≡ start_for self.entry.goal self.entry.features.now self.entry.class.now) }
+        ensures { IfOk result (λ machine. machine_seen machine.value ≡ start_for self.entry.goal self.entry.format self.entry.features.now self.entry.class.now) }
     {
         Ok(Box::new(alloc, self.machine(alloc)?)?)
     }
 
     fn begin(self, alloc: Global, mode: Mode, name: &'a str) -> Result<Machine<'a>, AllocError>
         requires { is_name name.now ≡ true }
-        ensures { IfOk result (λ machine. machine_seen machine ≡ record (behind self.entry.features.now [] []) { mode = mode; name = name.entry.now }) }
+        ensures { IfOk result (λ machine. machine_seen machine ≡ record (behind self.entry.format self.entry.features.now [] []) { mode = mode; name = name.entry.now }) }
     {
         let features = features_of(alloc, self.features)?;
-        Ok(Machine::beginning(alloc, mode, features, name))
+        Ok(Machine::beginning(alloc, mode, self.format, features, name))
     }
 
-    /// Counts what is met before the first token: the features.
+    /// Counts what is met before the first token: the format and the features.
     pub fn count_features(self, tally: &mut Tally<'a>) -> Result<(), AllocError>
         requires { tally_seen tally.old ≡ nothing }
         ensures { OnOk result (tally_seen tally.new ≡ met_of self.entry) }
     {
+        tally.format = self.format;
         'each: for item in self.features {
             tally.count_feature(item.text())?;
         }

@@ -10,9 +10,9 @@ use cfj_model::{Class, Constructor, FeatureModel, Field, Method};
 use fj_machine::Machine;
 use std::alloc::Global;
 
-/// The features, constraints and classes that are read.
+/// The format, features, constraints and classes that are read.
 pub fn into_parts(alloc: Global, machine: Box<Machine<'_>>) -> (FeatureModel, Vec<Class>)
-    ensures { of_parts result.0.features result.0.constraints result.1.items ≡ spec.stands_for (machine_seen machine.entry.value) }
+    ensures { of_parts result.0.format result.0.features result.0.constraints result.1.items ≡ spec.stands_for (machine_seen machine.entry.value) }
 {
     let mut machine = machine;
     machine.take_parts(alloc)

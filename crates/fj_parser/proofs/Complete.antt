@@ -1,17 +1,22 @@
 -- The text of each tree is read: in the tree's roles, and to the tree's value.
-use Rattle.std.proofs.Common.{◌≡◌, ℕ, ◌+◌, true, false, if◌then◌else◌, List, [], ◌∷◌, ◌++◌, length, map, bit_or, Some, None, refl, sym, ◌∙◌, ap, append_assoc, length-append}
+use Rattle.std.proofs.Common.{◌≡◌, ℕ, ◌+◌, Bool, true, false, not, ◌&&◌, if◌then◌else◌, List, [], ◌∷◌, ◌++◌, length, map, Some, None, refl, sym, ◌∙◌, ap, append_assoc, length-append}
 use Rattle.std.proofs.lemmas.List.{append-nil}
 use Rattle.std.proofs.lemmas.Slice.Eq.{bytes_eq-Decides}
 use Rattle.std.specs.Str.{bytes_eq}
+use Rattle.cfj_logic.specs.Sides.{Sides}
+use Rattle.cfj_model.specs.Coloring.{is_two, no_colors}
 use Rattle.cfj_model.specs.declared.class.Class.{Class}
-use Rattle.cfj_words.specs.Tokens.{Token, Id, ClassWord, ExtendsWord, SuperWord, ThisWord, ReturnWord, OpenBrace, CloseBrace, OpenParen, CloseParen, Semicolon, Comma, Dot, Equals, At, End}
+use Rattle.cfj_model.specs.declared.feature_model.Format.{Format}
+use Rattle.cfj_model.specs.declared.feature_model.Format.TheVariants.{One, Two}
+use Rattle.cfj_model.specs.declared.signed.Signed.{Signed}
+use Rattle.cfj_words.specs.Tokens.{Token, Id, ClassWord, ExtendsWord, SuperWord, ThisWord, ReturnWord, OpenBrace, CloseBrace, OpenParen, CloseParen, Semicolon, Comma, Dot, Equals, At, Bang, End}
 use Rattle.cfj_logic.specs.declared.formula.Formula.{Formula}
 use Rattle.cfj_model.specs.ExpressionGrammar.{spell_expr, roles_expr}
 use Rattle.cfj_model.specs.FormulaGrammar.{IffTree, spell_iff, roles_iff, value_iff}
-use Rattle.cfj_model.specs.Grammar.{Declared, Named, MethodTree, ClassTree, Tree, constraint_word, features_word, spell_name, spell_features, spell_field, spell_param, spell_sent, spell_assign, spell_ctor, spell_method, spell_constraint, spell_class, spell, numbered, value_field, value_param, value_sent, value_ctor, value_method, value_class}
-use Rattle.cfj_model.specs.Marks.{in_order, each_behind, separated, spell_marks, roles_mark, roles_marks, color_of, colored, colors_of}
-use Rattle.cfj_model.specs.Roles.{Role, mark_name, class_name, method_name, assigned_name, used_name, other_token}
-use Rattle.cfj_model.specs.TreeRoles.{roles_feature, roles_features, roles_field, roles_param, roles_method_param, roles_sent, roles_assign, roles_ctor, roles_method, roles_constraint, roles_class, roles}
+use Rattle.cfj_model.specs.Grammar.{Declared, Named, MethodTree, ClassTree, Tree, constraint_word, features_word, format_word, spell_name, spell_format, spell_features, spell_field, spell_param, spell_sent, spell_assign, spell_ctor, spell_method, spell_constraint, spell_class, spell, numbered, value_field, value_param, value_sent, value_ctor, value_method, value_class}
+use Rattle.cfj_model.specs.Marks.{in_order, each_behind, separated, spell_sign, spell_marks, roles_sign, roles_mark, roles_marks, marked, colored, colors_of}
+use Rattle.cfj_model.specs.Roles.{Role, format_line, sign, mark_name, class_name, method_name, assigned_name, used_name, other_token}
+use Rattle.cfj_model.specs.TreeRoles.{roles_format, roles_feature, roles_features, roles_field, roles_param, roles_method_param, roles_sent, roles_assign, roles_ctor, roles_method, roles_constraint, roles_class, roles}
 use Rattle.formula_reader.specs.Machine as formula
 use Rattle.formula_reader.specs.declared.mode.Mode as formula_mode
 use Rattle.formula_reader.specs.declared.mode.Mode.TheVariants.{Want, After, Done}
@@ -23,7 +28,7 @@ use Rattle.fj_machine.specs.declared.mode.Owner.TheVariants as owner
 use Rattle.fj_machine.specs.declared.mode.Node.{Node}
 use Rattle.fj_machine.specs.declared.mode.Node.TheVariants as node
 use Rattle.fj_machine.specs.declared.mode.Mode.{Mode}
-use Rattle.fj_machine.specs.declared.mode.Mode.TheVariants.{Begin, AfterFeatures, AfterFeature, Start, InConstraint, BetweenClasses, AfterAt, AfterMark, AfterClass, InMembers, InParams, AfterParamComma, AfterParam, AfterParams, InSends, AfterSendComma, AfterSend, AfterSends, InAssigns, AfterThis, AfterSecondName, InMethods, AfterResult, AtEnd}
+use Rattle.fj_machine.specs.declared.mode.Mode.TheVariants.{Begin, AfterFormat, AfterFeatures, AfterFeature, Start, InConstraint, BetweenClasses, AfterAt, AfterMark, AfterClass, InMembers, InParams, AfterParamComma, AfterParam, AfterParams, InSends, AfterSendComma, AfterSend, AfterSends, InAssigns, AfterThis, AfterSecondName, InMethods, AfterResult, AtEnd}
 use Rattle.fj_machine.specs.Machine.{unnamed, State, behind, before_classes, start, to, after_formula, in_formula, opens_constraint, step_in, run}
 use Rattle.fj_machine.specs.Readers.{Run, then_run, run_of}
 use Rattle.fj_parser.proofs.Expressions.{expression_tree_runs}
@@ -47,7 +52,7 @@ numbered_on f before x xs =
 -- ---- marks
 
 -- behind the marks of any node another may follow
-pub at_again : (n : Node) (s : State) → step_in (AfterMark n) s At ≡ to (AfterAt n) s
+pub at_again : (n : Node) (s : State) → step_in (AfterMark n) s At ≡ to (AfterAt n false) s
 at_again node.Class s = refl
 at_again node.Member s = refl
 at_again node.Method s = refl
@@ -55,51 +60,63 @@ at_again (node.Param o) s = refl
 at_again node.Send s = refl
 at_again node.Assign s = refl
 
+-- one mark behind its `@`
+mark_run : (n : Node) (off : Bool) (w : List ℕ) (ts : List Token) (s : State) → run (spell_sign off (Id w ∷ ts)) (record s { mode = AfterAt n false })
+    ≡ with_roles (λ rs. roles_sign off (mark_name w ∷ rs)) (run ts (record s { mode = AfterMark n; colors = marked s.features s.colors (record { off = off; name = w }) }))
+unfolding run_of
+mark_run n false w ts s = refl
+mark_run n true w ts s = refl
+
 -- the marks after the first
-marks_run : (n : Node) (ms : List (List ℕ)) (ts : List Token) (s : State) → run (spell_marks ms ts) (record s { mode = AfterMark n }) ≡ with_roles (roles_marks ms) (run ts (record s { mode = AfterMark n; colors = colored s.features s.colors ms }))
+marks_run : (n : Node) (ms : List Signed) (ts : List Token) (s : State) → run (spell_marks ms ts) (record s { mode = AfterMark n })
+    ≡ with_roles (roles_marks ms) (run ts (record s { mode = AfterMark n; colors = colored s.features s.colors ms }))
 unfolding run_of
 marks_run n [] ts s = refl
 marks_run n (m ∷ ms) ts s =
-    ap (then_run (run (Id m ∷ spell_marks ms ts)) (other_token ∷ [])) (at_again n (record s { mode = AfterMark n }))
-    ∙ ap (with_roles (roles_mark m)) (marks_run n ms ts (record s { colors = bit_or s.colors (color_of s.features m) }))
+    ap (then_run (run (spell_sign m.off (Id m.name ∷ spell_marks ms ts))) (other_token ∷ [])) (at_again n (record s { mode = AfterMark n }))
+    ∙ ap (with_role other_token) (mark_run n m.off m.name (spell_marks ms ts) s)
+    ∙ ap (with_roles (roles_mark m)) (marks_run n ms ts (record s { colors = marked s.features s.colors m }))
 
--- the marks of a node that has some, behind the sign of the first
-first_mark_run : (n : Node) (m : List ℕ) (ms : List (List ℕ)) (ts : List Token) (s : State) → run (Id m ∷ spell_marks ms ts) (record s { mode = AfterAt n; colors = 0 }) ≡ with_roles (λ rs. mark_name m ∷ roles_marks ms rs) (run ts (record s { mode = AfterMark n; colors = colors_of s.features (m ∷ ms) }))
-unfolding run_of
-first_mark_run n m ms ts s = ap (with_role (mark_name m)) (marks_run n ms ts (record s { colors = bit_or 0 (color_of s.features m) }))
+-- the marks of a node that has some, behind the `@` of the first
+first_mark_run : (n : Node) (m : Signed) (ms : List Signed) (ts : List Token) (s : State)
+    → run (spell_sign m.off (Id m.name ∷ spell_marks ms ts)) (record s { mode = AfterAt n false; colors = no_colors })
+    ≡ with_roles (λ rs. roles_sign m.off (mark_name m.name ∷ roles_marks ms rs)) (run ts (record s { mode = AfterMark n; colors = colors_of s.features (m ∷ ms) }))
+first_mark_run n m ms ts s =
+    mark_run n m.off m.name (spell_marks ms ts) (record s { colors = no_colors })
+    ∙ ap (with_roles (λ rs. roles_sign m.off (mark_name m.name ∷ rs))) (marks_run n ms ts (record s { colors = marked s.features no_colors m }))
 
 -- ---- a class's parts
 
 -- the states between the items of each list
 abbrev pub in_members : State → State
-in_members s = record s { mode = InMembers; colors = 0; of = unnamed; last = unnamed }
+in_members s = record s { mode = InMembers; colors = no_colors; of = unnamed; last = unnamed }
 
 abbrev pub in_params : Owner → State → State
-in_params o s = record s { mode = InParams o; params = []; colors = 0; of = unnamed }
+in_params o s = record s { mode = InParams o; params = []; colors = no_colors; of = unnamed }
 
 abbrev pub after_param_comma : Owner → State → State
-after_param_comma o s = record s { mode = AfterParamComma o; colors = 0; of = unnamed }
+after_param_comma o s = record s { mode = AfterParamComma o; colors = no_colors; of = unnamed }
 
 abbrev pub after_param : Owner → State → State
-after_param o s = record s { mode = AfterParam o; colors = 0; of = unnamed }
+after_param o s = record s { mode = AfterParam o; colors = no_colors; of = unnamed }
 
 abbrev pub after_params : Owner → State → State
-after_params o s = record s { mode = AfterParams o; colors = 0; of = unnamed }
+after_params o s = record s { mode = AfterParams o; colors = no_colors; of = unnamed }
 
 abbrev pub in_sends : State → State
-in_sends s = record s { mode = InSends; sends = []; colors = 0 }
+in_sends s = record s { mode = InSends; sends = []; colors = no_colors }
 
 abbrev pub after_send_comma : State → State
-after_send_comma s = record s { mode = AfterSendComma; colors = 0 }
+after_send_comma s = record s { mode = AfterSendComma; colors = no_colors }
 
 abbrev pub after_send : State → State
-after_send s = record s { mode = AfterSend; colors = 0 }
+after_send s = record s { mode = AfterSend; colors = no_colors }
 
 abbrev pub after_sends : State → State
-after_sends s = record s { mode = AfterSends; colors = 0 }
+after_sends s = record s { mode = AfterSends; colors = no_colors }
 
 abbrev pub in_assigns : State → State
-in_assigns s = record s { mode = InAssigns; colors = 0; last = unnamed }
+in_assigns s = record s { mode = InAssigns; colors = no_colors; last = unnamed }
 
 -- one more item in hand
 abbrev pub with_a_field : State → Declared → State
@@ -115,7 +132,7 @@ abbrev pub with_an_assign : State → Named → State
 with_an_assign s d = record s { assigns = s.assigns ++ value_sent s.features (length s.assigns) d ∷ [] }
 
 -- a field with these marks
-pub field_run : (ms : List (List ℕ)) (of name : List ℕ) (ts : List Token) (s : State) → run (spell_field (record { marks = ms; of = of; name = name }) ts) (in_members s) ≡ with_roles (roles_field (record { marks = ms; of = of; name = name })) (run ts (in_members (with_a_field s (record { marks = ms; of = of; name = name }))))
+pub field_run : (ms : List Signed) (of name : List ℕ) (ts : List Token) (s : State) → run (spell_field (record { marks = ms; of = of; name = name }) ts) (in_members s) ≡ with_roles (roles_field (record { marks = ms; of = of; name = name })) (run ts (in_members (with_a_field s (record { marks = ms; of = of; name = name }))))
 unfolding run_of
 field_run [] of name ts s = refl
 field_run (m ∷ ms) of name ts s = ap (with_role other_token) (first_mark_run node.Member m ms (Id of ∷ (Id name ∷ (Semicolon ∷ ts))) (in_members s))
@@ -134,7 +151,7 @@ roles_param_of owner.Constructor = roles_param
 roles_param_of owner.Method = roles_method_param
 
 -- a parameter with these marks behind a comma
-param_run : (o : Owner) (ms : List (List ℕ)) (of name : List ℕ) (ts : List Token) (s : State) → run (spell_param (record { marks = ms; of = of; name = name }) ts) (after_param_comma o s) ≡ with_roles (roles_param_of o (record { marks = ms; of = of; name = name })) (run ts (after_param o (with_a_param s (record { marks = ms; of = of; name = name }))))
+param_run : (o : Owner) (ms : List Signed) (of name : List ℕ) (ts : List Token) (s : State) → run (spell_param (record { marks = ms; of = of; name = name }) ts) (after_param_comma o s) ≡ with_roles (roles_param_of o (record { marks = ms; of = of; name = name })) (run ts (after_param o (with_a_param s (record { marks = ms; of = of; name = name }))))
 unfolding run_of
 param_run owner.Constructor [] of name ts s = refl
 param_run owner.Method [] of name ts s = refl
@@ -142,7 +159,7 @@ param_run owner.Constructor (m ∷ ms) of name ts s = ap (with_role other_token)
 param_run owner.Method (m ∷ ms) of name ts s = ap (with_role other_token) (first_mark_run (node.Param owner.Method) m ms (Id of ∷ (Id name ∷ ts)) (after_param_comma owner.Method s))
 
 -- the first parameter is read as one behind a comma
-first_param_run : (o : Owner) (ms : List (List ℕ)) (of name : List ℕ) (ts : List Token) (s : State) → run (spell_param (record { marks = ms; of = of; name = name }) ts) (in_params o s) ≡ run (spell_param (record { marks = ms; of = of; name = name }) ts) (after_param_comma o (record s { params = [] }))
+first_param_run : (o : Owner) (ms : List Signed) (of name : List ℕ) (ts : List Token) (s : State) → run (spell_param (record { marks = ms; of = of; name = name }) ts) (in_params o s) ≡ run (spell_param (record { marks = ms; of = of; name = name }) ts) (after_param_comma o (record s { params = [] }))
 unfolding run_of
 first_param_run o [] of name ts s = refl
 first_param_run o (m ∷ ms) of name ts s = refl
@@ -166,13 +183,13 @@ params_run o (d ∷ ds) ts s =
     ∙ ap (with_roles (roles_param_of o d)) (more_params_run o ds ts (record s { params = value_param s.features 0 d ∷ [] }))
 
 -- a sent name with these marks behind a comma
-sent_run : (ms : List (List ℕ)) (name : List ℕ) (ts : List Token) (s : State) → run (spell_sent (record { marks = ms; name = name }) ts) (after_send_comma s) ≡ with_roles (roles_sent (record { marks = ms; name = name })) (run ts (after_send (with_a_sent s (record { marks = ms; name = name }))))
+sent_run : (ms : List Signed) (name : List ℕ) (ts : List Token) (s : State) → run (spell_sent (record { marks = ms; name = name }) ts) (after_send_comma s) ≡ with_roles (roles_sent (record { marks = ms; name = name })) (run ts (after_send (with_a_sent s (record { marks = ms; name = name }))))
 unfolding run_of
 sent_run [] name ts s = refl
 sent_run (m ∷ ms) name ts s = ap (with_role other_token) (first_mark_run node.Send m ms (Id name ∷ ts) (after_send_comma s))
 
 -- the first sent name is read as one behind a comma
-first_sent_run : (ms : List (List ℕ)) (name : List ℕ) (ts : List Token) (s : State) → run (spell_sent (record { marks = ms; name = name }) ts) (in_sends s) ≡ run (spell_sent (record { marks = ms; name = name }) ts) (after_send_comma (record s { sends = [] }))
+first_sent_run : (ms : List Signed) (name : List ℕ) (ts : List Token) (s : State) → run (spell_sent (record { marks = ms; name = name }) ts) (in_sends s) ≡ run (spell_sent (record { marks = ms; name = name }) ts) (after_send_comma (record s { sends = [] }))
 unfolding run_of
 first_sent_run [] name ts s = refl
 first_sent_run (m ∷ ms) name ts s = refl
@@ -199,11 +216,11 @@ sends_run (d ∷ ds) ts s =
 assign_words_run : (w : List ℕ) (ts : List Token) (s : State) → run (Dot ∷ (Id w ∷ (Equals ∷ (Id w ∷ (Semicolon ∷ ts))))) (record s { mode = AfterThis; last = unnamed }) ≡ with_roles (λ rs. other_token ∷ (assigned_name w ∷ (other_token ∷ (used_name w ∷ (other_token ∷ rs))))) (run ts (in_assigns (record s { assigns = s.assigns ++ record { slot = length s.assigns; colors = s.colors; name = w } ∷ [] })))
 unfolding run_of
 assign_words_run w ts s =
-    let n : State = record s { mode = AfterSecondName; assigns = s.assigns ++ record { slot = length s.assigns; colors = s.colors; name = w } ∷ []; colors = 0; last = unnamed } in
+    let n : State = record s { mode = AfterSecondName; assigns = s.assigns ++ record { slot = length s.assigns; colors = s.colors; name = w } ∷ []; colors = no_colors; last = unnamed } in
     ap (λ b. with_roles (λ rs. other_token ∷ (assigned_name w ∷ (other_token ∷ rs))) (then_run (run (Semicolon ∷ ts)) (used_name w ∷ []) (if b then Some n else None))) (same_name w)
 
 -- an assignment with these marks
-assign_run : (ms : List (List ℕ)) (w : List ℕ) (ts : List Token) (s : State) → run (spell_assign (record { marks = ms; name = w }) ts) (in_assigns s) ≡ with_roles (roles_assign (record { marks = ms; name = w })) (run ts (in_assigns (with_an_assign s (record { marks = ms; name = w }))))
+assign_run : (ms : List Signed) (w : List ℕ) (ts : List Token) (s : State) → run (spell_assign (record { marks = ms; name = w }) ts) (in_assigns s) ≡ with_roles (roles_assign (record { marks = ms; name = w })) (run ts (in_assigns (with_an_assign s (record { marks = ms; name = w }))))
 unfolding run_of
 assign_run [] w ts s = ap (with_role other_token) (assign_words_run w ts (in_assigns s))
 assign_run (m ∷ ms) w ts s =
@@ -220,10 +237,10 @@ assigns_run (d ∷ ds) ts s =
 
 -- the states of a constructor: before its body, and behind it
 abbrev pub before_body : ClassTree → State → State
-before_body k s = record s { mode = AfterParams owner.Constructor; params = numbered (value_param s.features) 0 k.params; sends = []; assigns = []; colors = 0; of = unnamed; last = unnamed }
+before_body k s = record s { mode = AfterParams owner.Constructor; params = numbered (value_param s.features) 0 k.params; sends = []; assigns = []; colors = no_colors; of = unnamed; last = unnamed }
 
 abbrev pub behind_ctor : ClassTree → State → State
-behind_ctor k s = record s { mode = InMethods; params = []; sends = []; assigns = []; ctor = value_ctor s.features k; colors = 0; of = unnamed; last = unnamed }
+behind_ctor k s = record s { mode = InMethods; params = []; sends = []; assigns = []; ctor = value_ctor s.features k; colors = no_colors; of = unnamed; last = unnamed }
 
 -- the constructor from its body on
 pub body_run : (k : ClassTree) (ts : List Token) (s : State) → run (OpenBrace ∷ (SuperWord ∷ (OpenParen ∷ separated Comma spell_sent k.sends (CloseParen ∷ (Semicolon ∷ in_order spell_assign k.assigns (CloseBrace ∷ ts)))))) (before_body k s) ≡ with_roles (λ rs. other_token ∷ (other_token ∷ (other_token ∷ separated other_token roles_sent k.sends (other_token ∷ (other_token ∷ in_order roles_assign k.assigns (other_token ∷ rs)))))) (run ts (behind_ctor k s))
@@ -241,7 +258,7 @@ ctor_run : (k : ClassTree) (ts : List Token) (s : State) → run (spell_ctor k t
 unfolding run_of
 ctor_run k ts s =
     let body : List Token = OpenBrace ∷ (SuperWord ∷ (OpenParen ∷ separated Comma spell_sent k.sends (CloseParen ∷ (Semicolon ∷ in_order spell_assign k.assigns (CloseBrace ∷ ts))))) in
-    let n : State = record s { mode = InParams owner.Constructor; name = k.name; params = []; sends = []; assigns = []; colors = 0; of = unnamed; last = unnamed } in
+    let n : State = record s { mode = InParams owner.Constructor; name = k.name; params = []; sends = []; assigns = []; colors = no_colors; of = unnamed; last = unnamed } in
     ap (λ b. with_role (used_name k.name) (then_run (run (separated Comma spell_param k.params (CloseParen ∷ body))) (other_token ∷ []) (if b then Some n else None))) (same_name k.name)
     ∙ ap (with_roles (λ rs. used_name k.name ∷ (other_token ∷ rs))) (params_run owner.Constructor k.params body n)
     ∙ ap (with_roles (λ rs. used_name k.name ∷ (other_token ∷ separated other_token roles_param k.params (other_token ∷ rs)))) (body_run k ts (record s { name = k.name }))
@@ -256,7 +273,7 @@ members_run ds k ts s =
 
 -- between methods
 abbrev pub in_methods : State → State
-in_methods s = record s { mode = InMethods; params = []; method_colors = 0; result_type = unnamed; method = unnamed; expression = expression.start; colors = 0; of = unnamed }
+in_methods s = record s { mode = InMethods; params = []; method_colors = no_colors; result_type = unnamed; method = unnamed; expression = expression.start; colors = no_colors; of = unnamed }
 
 -- one more method in hand
 abbrev pub with_a_method : State → MethodTree → State
@@ -270,10 +287,10 @@ abbrev pub roles_method_rest : MethodTree → List Role → List Role
 roles_method_rest m rs = separated other_token roles_method_param m.params (other_token ∷ (other_token ∷ (other_token ∷ roles_expr 0 m.body (other_token ∷ (other_token ∷ rs)))))
 
 -- a method behind its head, with its colours in hand
-abbrev pub behind_head : State → ℕ → List ℕ → List ℕ → State
+abbrev pub behind_head : State → Sides → List ℕ → List ℕ → State
 behind_head s colors result name = in_params owner.Method (record (in_methods s) { method_colors = colors; result_type = result; method = name })
 
-pub method_rest_run : (m : MethodTree) (colors : ℕ) (ts : List Token) (s : State) → run (method_rest m ts) (behind_head s colors m.result m.name) ≡ with_roles (roles_method_rest m) (run ts (in_methods (record s { methods = s.methods ++ record (value_method s.features m) { colors = colors } ∷ [] })))
+pub method_rest_run : (m : MethodTree) (colors : Sides) (ts : List Token) (s : State) → run (method_rest m ts) (behind_head s colors m.result m.name) ≡ with_roles (roles_method_rest m) (run ts (in_methods (record s { methods = s.methods ++ record (value_method s.features m) { colors = colors } ∷ [] })))
 unfolding run_of
 method_rest_run m colors ts s =
     let n : State = record (in_methods s) { method_colors = colors; result_type = m.result; method = m.name } in
@@ -281,12 +298,12 @@ method_rest_run m colors ts s =
     ∙ ap (with_roles (λ rs. separated other_token roles_method_param m.params (other_token ∷ (other_token ∷ (other_token ∷ rs))))) (expression_tree_runs m.body (CloseBrace ∷ ts) (record n { params = numbered (value_param s.features) 0 m.params }))
 
 -- a method's words behind the first, with its colours in hand
-method_words_run : (m : MethodTree) (colors : ℕ) (ts : List Token) (s : State) → run (Id m.name ∷ (OpenParen ∷ method_rest m ts)) (record (in_methods s) { mode = AfterResult; colors = colors; of = m.result }) ≡ with_roles (λ rs. method_name m.name ∷ (other_token ∷ roles_method_rest m rs)) (run ts (in_methods (record s { methods = s.methods ++ record (value_method s.features m) { colors = colors } ∷ [] })))
+method_words_run : (m : MethodTree) (colors : Sides) (ts : List Token) (s : State) → run (Id m.name ∷ (OpenParen ∷ method_rest m ts)) (record (in_methods s) { mode = AfterResult; colors = colors; of = m.result }) ≡ with_roles (λ rs. method_name m.name ∷ (other_token ∷ roles_method_rest m rs)) (run ts (in_methods (record s { methods = s.methods ++ record (value_method s.features m) { colors = colors } ∷ [] })))
 unfolding run_of
 method_words_run m colors ts s = ap (with_roles (λ rs. method_name m.name ∷ (other_token ∷ rs))) (method_rest_run m colors ts s)
 
 -- a method's marks and its first word
-method_marks_run : (ms : List (List ℕ)) (w : List ℕ) (ts : List Token) (s : State) → run (spell_marks ms (Id w ∷ ts)) (in_methods s) ≡ with_roles (λ rs. roles_marks ms (used_name w ∷ rs)) (run ts (record (in_methods s) { mode = AfterResult; colors = colors_of s.features ms; of = w }))
+method_marks_run : (ms : List Signed) (w : List ℕ) (ts : List Token) (s : State) → run (spell_marks ms (Id w ∷ ts)) (in_methods s) ≡ with_roles (λ rs. roles_marks ms (used_name w ∷ rs)) (run ts (record (in_methods s) { mode = AfterResult; colors = colors_of s.features ms; of = w }))
 unfolding run_of
 method_marks_run [] w ts s = refl
 method_marks_run (m ∷ ms) w ts s = ap (with_role other_token) (first_mark_run node.Method m ms (Id w ∷ ts) (in_methods s))
@@ -308,39 +325,61 @@ methods_run (m ∷ ms) ts s =
 -- ---- classes
 
 -- a class behind its first word, with its colours in hand
-class_words_run : (k : ClassTree) (colors : ℕ) (ts : List Token) (fs : List (List ℕ)) (gs : List Formula) (cs : List Class) → run (Id k.name ∷ (ExtendsWord ∷ (Id k.parent ∷ (OpenBrace ∷ in_order spell_field k.fields (spell_ctor k (in_order spell_method k.methods (CloseBrace ∷ ts))))))) (record (behind fs gs cs) { mode = AfterClass; class_colors = colors }) ≡ with_roles (λ rs. class_name k.name ∷ (other_token ∷ (used_name k.parent ∷ (other_token ∷ in_order roles_field k.fields (roles_ctor k (in_order roles_method k.methods (other_token ∷ rs))))))) (run ts (behind fs gs (cs ++ record (value_class fs k) { colors = colors } ∷ [])))
+class_words_run : (k : ClassTree) (colors : Sides) (ts : List Token) (format : Format) (fs : List (List ℕ)) (gs : List Formula) (cs : List Class) → run (Id k.name ∷ (ExtendsWord ∷ (Id k.parent ∷ (OpenBrace ∷ in_order spell_field k.fields (spell_ctor k (in_order spell_method k.methods (CloseBrace ∷ ts))))))) (record (behind format fs gs cs) { mode = AfterClass; class_colors = colors }) ≡ with_roles (λ rs. class_name k.name ∷ (other_token ∷ (used_name k.parent ∷ (other_token ∷ in_order roles_field k.fields (roles_ctor k (in_order roles_method k.methods (other_token ∷ rs))))))) (run ts (behind format fs gs (cs ++ record (value_class fs k) { colors = colors } ∷ [])))
 unfolding run_of
-class_words_run k colors ts fs gs cs =
-    let n : State = record (behind fs gs cs) { class_colors = colors; parent = k.parent } in
+class_words_run k colors ts format fs gs cs =
+    let n : State = record (behind format fs gs cs) { class_colors = colors; parent = k.parent } in
     ap (with_roles (λ rs. class_name k.name ∷ (other_token ∷ (used_name k.parent ∷ (other_token ∷ rs)))))
     (members_run k.fields k (in_order spell_method k.methods (CloseBrace ∷ ts)) n
     ∙ ap (with_roles (λ rs. in_order roles_field k.fields (roles_ctor k rs))) (methods_run k.methods (CloseBrace ∷ ts) (behind_ctor k (record n { name = k.name; fields = map (value_field fs) k.fields }))))
 
 -- a class's marks and its first word
-class_marks_run : (ms : List (List ℕ)) (ts : List Token) (fs : List (List ℕ)) (gs : List Formula) (cs : List Class) → run (spell_marks ms (ClassWord ∷ ts)) (behind fs gs cs) ≡ with_roles (λ rs. roles_marks ms (other_token ∷ rs)) (run ts (record (behind fs gs cs) { mode = AfterClass; class_colors = colors_of fs ms }))
+class_marks_run : (ms : List Signed) (ts : List Token) (format : Format) (fs : List (List ℕ)) (gs : List Formula) (cs : List Class) → run (spell_marks ms (ClassWord ∷ ts)) (behind format fs gs cs) ≡ with_roles (λ rs. roles_marks ms (other_token ∷ rs)) (run ts (record (behind format fs gs cs) { mode = AfterClass; class_colors = colors_of fs ms }))
 unfolding run_of
-class_marks_run [] ts fs gs cs = refl
-class_marks_run (m ∷ ms) ts fs gs cs = ap (with_role other_token) (first_mark_run node.Class m ms (ClassWord ∷ ts) (behind fs gs cs))
+class_marks_run [] ts format fs gs cs = refl
+class_marks_run (m ∷ ms) ts format fs gs cs = ap (with_role other_token) (first_mark_run node.Class m ms (ClassWord ∷ ts) (behind format fs gs cs))
 
 -- a class behind its marks
 abbrev class_text : ClassTree → List Token → List Token
 class_text k ts = Id k.name ∷ (ExtendsWord ∷ (Id k.parent ∷ (OpenBrace ∷ in_order spell_field k.fields (spell_ctor k (in_order spell_method k.methods (CloseBrace ∷ ts))))))
 
 -- class
-pub class_run : (k : ClassTree) (ts : List Token) (fs : List (List ℕ)) (gs : List Formula) (cs : List Class) → run (spell_class k ts) (behind fs gs cs) ≡ with_roles (roles_class k) (run ts (behind fs gs (cs ++ value_class fs k ∷ [])))
-class_run k ts fs gs cs =
-    class_marks_run k.marks (class_text k ts) fs gs cs
-    ∙ ap (with_roles (λ rs. roles_marks k.marks (other_token ∷ rs))) (class_words_run k (colors_of fs k.marks) ts fs gs cs)
+pub class_run : (k : ClassTree) (ts : List Token) (format : Format) (fs : List (List ℕ)) (gs : List Formula) (cs : List Class) → run (spell_class k ts) (behind format fs gs cs) ≡ with_roles (roles_class k) (run ts (behind format fs gs (cs ++ value_class fs k ∷ [])))
+class_run k ts format fs gs cs =
+    class_marks_run k.marks (class_text k ts) format fs gs cs
+    ∙ ap (with_roles (λ rs. roles_marks k.marks (other_token ∷ rs))) (class_words_run k (colors_of fs k.marks) ts format fs gs cs)
 
 -- {class}
-classes_run_on : (ks : List ClassTree) (ts : List Token) (fs : List (List ℕ)) (gs : List Formula) (cs : List Class) → run (in_order spell_class ks ts) (behind fs gs cs) ≡ with_roles (in_order roles_class ks) (run ts (behind fs gs (cs ++ map (value_class fs) ks)))
-classes_run_on [] ts fs gs cs = ap (λ all. run ts (behind fs gs all)) (sym (append-nil cs))
-classes_run_on (k ∷ ks) ts fs gs cs =
-    class_run k (in_order spell_class ks ts) fs gs cs
-    ∙ ap (with_roles (roles_class k)) (classes_run_on ks ts fs gs (cs ++ value_class fs k ∷ []))
-    ∙ ap (λ all. with_roles (in_order roles_class (k ∷ ks)) (run ts (behind fs gs all))) (append_assoc cs (value_class fs k ∷ []) (map (value_class fs) ks))
+classes_run_on : (ks : List ClassTree) (ts : List Token) (format : Format) (fs : List (List ℕ)) (gs : List Formula) (cs : List Class) → run (in_order spell_class ks ts) (behind format fs gs cs) ≡ with_roles (in_order roles_class ks) (run ts (behind format fs gs (cs ++ map (value_class fs) ks)))
+classes_run_on [] ts format fs gs cs = ap (λ all. run ts (behind format fs gs all)) (sym (append-nil cs))
+classes_run_on (k ∷ ks) ts format fs gs cs =
+    class_run k (in_order spell_class ks ts) format fs gs cs
+    ∙ ap (with_roles (roles_class k)) (classes_run_on ks ts format fs gs (cs ++ value_class fs k ∷ []))
+    ∙ ap (λ all. with_roles (in_order roles_class (k ∷ ks)) (run ts (behind format fs gs all))) (append_assoc cs (value_class fs k ∷ []) (map (value_class fs) ks))
 
--- ---- the feature line
+-- ---- the lines for the format and the features
+
+-- before the first token, or behind the line for format Two
+abbrev pub start_in : Format → State
+start_in format = record (behind format [] [] []) { mode = Begin }
+
+-- the words differ
+is_no_format_word : (w : List ℕ) → bytes_eq w format_word ≡ false → (format : Format) (ts : List Token)
+    → run (Id w ∷ ts) (start_in format) ≡ then_run (run ts) (used_name w ∷ []) (if bytes_eq w features_word then to AfterFeatures (start_in format) else opens_constraint (start_in format) w)
+unfolding run_of
+is_no_format_word w h format ts =
+    ap (λ b. then_run (run ts) ((if b then format_line else used_name w) ∷ [])
+        (if b && not (is_two format) then to AfterFormat (start_in format) else
+         if bytes_eq w features_word then to AfterFeatures (start_in format) else opens_constraint (start_in format) w)) h
+
+-- the line for format Two, where there is one
+format_run : (format : Format) (ts : List Token) → run (spell_format format ts) start ≡ with_roles (roles_format format) (run ts (start_in format))
+unfolding run_of
+format_run One ts = refl
+format_run Two ts =
+    ap (λ b. then_run (run (Semicolon ∷ ts)) ((if b then format_line else used_name format_word) ∷ [])
+        (if b && true then to AfterFormat start else
+         if bytes_eq format_word features_word then to AfterFeatures start else opens_constraint start format_word)) (same_name format_word)
 
 -- the features after the first, and the semicolon
 more_features_run : (fs : List (List ℕ)) (ts : List Token) (s : State) → run (each_behind Comma spell_name fs (Semicolon ∷ ts)) (record s { mode = AfterFeature }) ≡ with_roles (λ rs. each_behind other_token roles_feature fs (other_token ∷ rs)) (run ts (record s { mode = Start; features = s.features ++ fs }))
@@ -351,11 +390,12 @@ more_features_run (f ∷ fs) ts s =
     ∙ ap (λ all. with_roles (λ rs. each_behind other_token roles_feature (f ∷ fs) (other_token ∷ rs)) (run ts (record s { mode = Start; features = all }))) (append_assoc s.features (f ∷ []) fs)
 
 -- a line of features
-features_run : (f : List ℕ) (fs : List (List ℕ)) (ts : List Token) → run (spell_features (f ∷ fs) ts) start ≡ with_roles (roles_features (f ∷ fs)) (run ts (before_classes (f ∷ fs) []))
+features_run : (format : Format) (f : List ℕ) (fs : List (List ℕ)) (ts : List Token) → run (spell_features (f ∷ fs) ts) (start_in format) ≡ with_roles (roles_features (f ∷ fs)) (run ts (before_classes format (f ∷ fs) []))
 unfolding run_of
-features_run f fs ts =
-    ap (λ b. then_run (run (Id f ∷ each_behind Comma spell_name fs (Semicolon ∷ ts))) (used_name features_word ∷ []) (if b then to AfterFeatures start else opens_constraint start features_word)) (same_name features_word)
-    ∙ ap (with_roles (λ rs. used_name features_word ∷ roles_feature f rs)) (more_features_run fs ts (behind (f ∷ []) [] []))
+features_run format f fs ts =
+    is_no_format_word features_word refl format (Id f ∷ each_behind Comma spell_name fs (Semicolon ∷ ts))
+    ∙ ap (λ b. then_run (run (Id f ∷ each_behind Comma spell_name fs (Semicolon ∷ ts))) (used_name features_word ∷ []) (if b then to AfterFeatures (start_in format) else opens_constraint (start_in format) features_word)) (same_name features_word)
+    ∙ ap (with_roles (λ rs. used_name features_word ∷ roles_feature f rs)) (more_features_run fs ts (behind format (f ∷ []) [] []))
 
 -- ---- constraints
 
@@ -385,49 +425,50 @@ formula_roles : (x : IffTree) (qs : List Role) → roles_iff 0 x (other_token �
 formula_roles x qs = roles_iff_append 0 x (other_token ∷ []) qs
 
 -- a constraint behind its word
-constraint_words_run : (x : IffTree) (ts : List Token) (fs : List (List ℕ)) (gs : List Formula) → run (spell_iff x (Semicolon ∷ ts)) (record (before_classes fs gs) { mode = InConstraint }) ≡ with_roles (λ qs. roles_iff 0 x (other_token ∷ qs)) (run ts (before_classes fs (gs ++ value_iff fs x ∷ [])))
-constraint_words_run x ts fs gs =
-    ap (λ w. run w (record (before_classes fs gs) { mode = InConstraint })) (formula_text x ts)
-    ∙ formula_runs (before_classes fs gs) (spell_iff x (Semicolon ∷ [])) formula.start (roles_iff 0 x (other_token ∷ [])) (value_iff fs x) (formula_leads fs x) ts
-    ∙ ap (λ qs. ((run ts (before_classes fs (gs ++ value_iff fs x ∷ []))).0, qs)) (formula_roles x (run ts (before_classes fs (gs ++ value_iff fs x ∷ []))).1)
+constraint_words_run : (x : IffTree) (ts : List Token) (format : Format) (fs : List (List ℕ)) (gs : List Formula) → run (spell_iff x (Semicolon ∷ ts)) (record (before_classes format fs gs) { mode = InConstraint }) ≡ with_roles (λ qs. roles_iff 0 x (other_token ∷ qs)) (run ts (before_classes format fs (gs ++ value_iff fs x ∷ [])))
+constraint_words_run x ts format fs gs =
+    ap (λ w. run w (record (before_classes format fs gs) { mode = InConstraint })) (formula_text x ts)
+    ∙ formula_runs (before_classes format fs gs) (spell_iff x (Semicolon ∷ [])) formula.start (roles_iff 0 x (other_token ∷ [])) (value_iff fs x) (formula_leads fs x) ts
+    ∙ ap (λ qs. ((run ts (before_classes format fs (gs ++ value_iff fs x ∷ []))).0, qs)) (formula_roles x (run ts (before_classes format fs (gs ++ value_iff fs x ∷ []))).1)
 
 -- "constraint" iff ";"
-constraint_run : (x : IffTree) (ts : List Token) (fs : List (List ℕ)) (gs : List Formula) → run (spell_constraint x ts) (before_classes fs gs) ≡ with_roles (roles_constraint x) (run ts (before_classes fs (gs ++ value_iff fs x ∷ [])))
+constraint_run : (x : IffTree) (ts : List Token) (format : Format) (fs : List (List ℕ)) (gs : List Formula) → run (spell_constraint x ts) (before_classes format fs gs) ≡ with_roles (roles_constraint x) (run ts (before_classes format fs (gs ++ value_iff fs x ∷ [])))
 unfolding run_of
-constraint_run x ts fs gs =
-    ap (λ b. then_run (run (spell_iff x (Semicolon ∷ ts))) (used_name constraint_word ∷ []) (if b then to InConstraint (before_classes fs gs) else None)) (same_name constraint_word)
-    ∙ ap (with_role (used_name constraint_word)) (constraint_words_run x ts fs gs)
+constraint_run x ts format fs gs =
+    ap (λ b. then_run (run (spell_iff x (Semicolon ∷ ts))) (used_name constraint_word ∷ []) (if b then to InConstraint (before_classes format fs gs) else None)) (same_name constraint_word)
+    ∙ ap (with_role (used_name constraint_word)) (constraint_words_run x ts format fs gs)
 
 -- the words differ
 is_no_features_word : bytes_eq constraint_word features_word ≡ false
 is_no_features_word = refl
 
 -- Where no feature line stands, the first constraint is read as one behind such a line.
-first_constraint_run : (x : IffTree) (ts : List Token) → run (spell_constraint x ts) start ≡ run (spell_constraint x ts) (before_classes [] [])
+first_constraint_run : (format : Format) (x : IffTree) (ts : List Token) → run (spell_constraint x ts) (start_in format) ≡ run (spell_constraint x ts) (before_classes format [] [])
 unfolding run_of
-first_constraint_run x ts =
-    ap (λ b. then_run (run (spell_iff x (Semicolon ∷ ts))) (used_name constraint_word ∷ []) (if b then to AfterFeatures start else opens_constraint start constraint_word)) is_no_features_word
+first_constraint_run format x ts =
+    is_no_format_word constraint_word refl format (spell_iff x (Semicolon ∷ ts))
+    ∙ ap (λ b. then_run (run (spell_iff x (Semicolon ∷ ts))) (used_name constraint_word ∷ []) (if b then to AfterFeatures (start_in format) else opens_constraint (start_in format) constraint_word)) is_no_features_word
 
 -- {constraint}
-constraints_run : (xs : List IffTree) (ts : List Token) (fs : List (List ℕ)) (gs : List Formula) → run (in_order spell_constraint xs ts) (before_classes fs gs) ≡ with_roles (in_order roles_constraint xs) (run ts (before_classes fs (gs ++ map (value_iff fs) xs)))
-constraints_run [] ts fs gs = ap (λ all. run ts (before_classes fs all)) (sym (append-nil gs))
-constraints_run (x ∷ xs) ts fs gs =
-    constraint_run x (in_order spell_constraint xs ts) fs gs
-    ∙ ap (with_roles (roles_constraint x)) (constraints_run xs ts fs (gs ++ value_iff fs x ∷ []))
-    ∙ ap (λ all. with_roles (in_order roles_constraint (x ∷ xs)) (run ts (before_classes fs all))) (append_assoc gs (value_iff fs x ∷ []) (map (value_iff fs) xs))
+constraints_run : (xs : List IffTree) (ts : List Token) (format : Format) (fs : List (List ℕ)) (gs : List Formula) → run (in_order spell_constraint xs ts) (before_classes format fs gs) ≡ with_roles (in_order roles_constraint xs) (run ts (before_classes format fs (gs ++ map (value_iff fs) xs)))
+constraints_run [] ts format fs gs = ap (λ all. run ts (before_classes format fs all)) (sym (append-nil gs))
+constraints_run (x ∷ xs) ts format fs gs =
+    constraint_run x (in_order spell_constraint xs ts) format fs gs
+    ∙ ap (with_roles (roles_constraint x)) (constraints_run xs ts format fs (gs ++ value_iff fs x ∷ []))
+    ∙ ap (λ all. with_roles (in_order roles_constraint (x ∷ xs)) (run ts (before_classes format fs all))) (append_assoc gs (value_iff fs x ∷ []) (map (value_iff fs) xs))
 
 -- ---- a tree
 
--- The first class is read as one behind others, with nothing before it or behind the feature line or a constraint.
-begins_class : (ms : List (List ℕ)) (ts : List Token) → run (spell_marks ms (ClassWord ∷ ts)) start ≡ run (spell_marks ms (ClassWord ∷ ts)) (behind [] [] [])
+-- The first class is read as one behind others, with nothing before it or behind a line of the model.
+begins_class : (format : Format) (ms : List Signed) (ts : List Token) → run (spell_marks ms (ClassWord ∷ ts)) (start_in format) ≡ run (spell_marks ms (ClassWord ∷ ts)) (behind format [] [] [])
 unfolding run_of
-begins_class [] ts = refl
-begins_class (m ∷ ms) ts = refl
+begins_class format [] ts = refl
+begins_class format (m ∷ ms) ts = refl
 
-first_class_run : (ms : List (List ℕ)) (ts : List Token) (fs : List (List ℕ)) (gs : List Formula) → run (spell_marks ms (ClassWord ∷ ts)) (before_classes fs gs) ≡ run (spell_marks ms (ClassWord ∷ ts)) (behind fs gs [])
+first_class_run : (ms : List Signed) (ts : List Token) (format : Format) (fs : List (List ℕ)) (gs : List Formula) → run (spell_marks ms (ClassWord ∷ ts)) (before_classes format fs gs) ≡ run (spell_marks ms (ClassWord ∷ ts)) (behind format fs gs [])
 unfolding run_of
-first_class_run [] ts fs gs = refl
-first_class_run (m ∷ ms) ts fs gs = refl
+first_class_run [] ts format fs gs = refl
+first_class_run (m ∷ ms) ts format fs gs = refl
 
 -- the mode behind the features, the constraints and the classes
 abbrev pub mode_behind : List (List ℕ) → List IffTree → List ClassTree → Mode
@@ -437,55 +478,61 @@ mode_behind [] (x ∷ xs) [] = Start
 mode_behind fs xs (k ∷ ks) = BetweenClasses
 
 -- the state behind them
-abbrev pub behind_all : List (List ℕ) → List IffTree → List ClassTree → State
-behind_all fs xs ks = record (behind fs (map (value_iff fs) xs) (map (value_class fs) ks)) { mode = mode_behind fs xs ks }
+abbrev pub behind_all : Format → List (List ℕ) → List IffTree → List ClassTree → State
+behind_all format fs xs ks = record (behind format fs (map (value_iff fs) xs) (map (value_class fs) ks)) { mode = mode_behind fs xs ks }
 
 -- the classes behind a feature line, and behind a constraint
-behind_features : (f : List ℕ) (fs : List (List ℕ)) (xs : List IffTree) (ks : List ClassTree) (ts : List Token) → run (in_order spell_class ks ts) (before_classes (f ∷ fs) (map (value_iff (f ∷ fs)) xs)) ≡ with_roles (in_order roles_class ks) (run ts (behind_all (f ∷ fs) xs ks))
-behind_features f fs xs [] ts = refl
-behind_features f fs xs (k ∷ ks) ts =
-    first_class_run k.marks (class_text k (in_order spell_class ks ts)) (f ∷ fs) (map (value_iff (f ∷ fs)) xs)
-    ∙ classes_run_on (k ∷ ks) ts (f ∷ fs) (map (value_iff (f ∷ fs)) xs) []
+behind_features : (format : Format) (f : List ℕ) (fs : List (List ℕ)) (xs : List IffTree) (ks : List ClassTree) (ts : List Token)
+    → run (in_order spell_class ks ts) (before_classes format (f ∷ fs) (map (value_iff (f ∷ fs)) xs)) ≡ with_roles (in_order roles_class ks) (run ts (behind_all format (f ∷ fs) xs ks))
+behind_features format f fs xs [] ts = refl
+behind_features format f fs xs (k ∷ ks) ts =
+    first_class_run k.marks (class_text k (in_order spell_class ks ts)) format (f ∷ fs) (map (value_iff (f ∷ fs)) xs)
+    ∙ classes_run_on (k ∷ ks) ts format (f ∷ fs) (map (value_iff (f ∷ fs)) xs) []
 
-behind_constraint : (x : IffTree) (xs : List IffTree) (ks : List ClassTree) (ts : List Token) → run (in_order spell_class ks ts) (before_classes [] (map (value_iff []) (x ∷ xs))) ≡ with_roles (in_order roles_class ks) (run ts (behind_all [] (x ∷ xs) ks))
-behind_constraint x xs [] ts = refl
-behind_constraint x xs (k ∷ ks) ts =
-    first_class_run k.marks (class_text k (in_order spell_class ks ts)) [] (map (value_iff []) (x ∷ xs))
-    ∙ classes_run_on (k ∷ ks) ts [] (map (value_iff []) (x ∷ xs)) []
+behind_constraint : (format : Format) (x : IffTree) (xs : List IffTree) (ks : List ClassTree) (ts : List Token)
+    → run (in_order spell_class ks ts) (before_classes format [] (map (value_iff []) (x ∷ xs))) ≡ with_roles (in_order roles_class ks) (run ts (behind_all format [] (x ∷ xs) ks))
+behind_constraint format x xs [] ts = refl
+behind_constraint format x xs (k ∷ ks) ts =
+    first_class_run k.marks (class_text k (in_order spell_class ks ts)) format [] (map (value_iff []) (x ∷ xs))
+    ∙ classes_run_on (k ∷ ks) ts format [] (map (value_iff []) (x ∷ xs)) []
 
--- a tree, and more
-parts_run : (fs : List (List ℕ)) (xs : List IffTree) (ks : List ClassTree) (ts : List Token) → run (spell_features fs (in_order spell_constraint xs (in_order spell_class ks ts))) start ≡ with_roles (λ rs. roles_features fs (in_order roles_constraint xs (in_order roles_class ks rs))) (run ts (behind_all fs xs ks))
-parts_run [] [] [] ts = refl
-parts_run [] [] (k ∷ ks) ts = begins_class k.marks (class_text k (in_order spell_class ks ts)) ∙ classes_run_on (k ∷ ks) ts [] [] []
-parts_run [] (x ∷ xs) ks ts =
-    first_constraint_run x (in_order spell_constraint xs (in_order spell_class ks ts))
-    ∙ constraints_run (x ∷ xs) (in_order spell_class ks ts) [] []
-    ∙ ap (with_roles (in_order roles_constraint (x ∷ xs))) (behind_constraint x xs ks ts)
-parts_run (f ∷ fs) xs ks ts =
-    features_run f fs (in_order spell_constraint xs (in_order spell_class ks ts))
-    ∙ ap (with_roles (roles_features (f ∷ fs))) (constraints_run xs (in_order spell_class ks ts) (f ∷ fs) [])
-    ∙ ap (with_roles (λ rs. roles_features (f ∷ fs) (in_order roles_constraint xs rs))) (behind_features f fs xs ks ts)
+-- a tree behind its format, and more
+parts_run : (format : Format) (fs : List (List ℕ)) (xs : List IffTree) (ks : List ClassTree) (ts : List Token)
+    → run (spell_features fs (in_order spell_constraint xs (in_order spell_class ks ts))) (start_in format)
+    ≡ with_roles (λ rs. roles_features fs (in_order roles_constraint xs (in_order roles_class ks rs))) (run ts (behind_all format fs xs ks))
+parts_run format [] [] [] ts = refl
+parts_run format [] [] (k ∷ ks) ts = begins_class format k.marks (class_text k (in_order spell_class ks ts)) ∙ classes_run_on (k ∷ ks) ts format [] [] []
+parts_run format [] (x ∷ xs) ks ts =
+    first_constraint_run format x (in_order spell_constraint xs (in_order spell_class ks ts))
+    ∙ constraints_run (x ∷ xs) (in_order spell_class ks ts) format [] []
+    ∙ ap (with_roles (in_order roles_constraint (x ∷ xs))) (behind_constraint format x xs ks ts)
+parts_run format (f ∷ fs) xs ks ts =
+    features_run format f fs (in_order spell_constraint xs (in_order spell_class ks ts))
+    ∙ ap (with_roles (roles_features (f ∷ fs))) (constraints_run xs (in_order spell_class ks ts) format (f ∷ fs) [])
+    ∙ ap (with_roles (λ rs. roles_features (f ∷ fs) (in_order roles_constraint xs rs))) (behind_features format f fs xs ks ts)
 
-tree_run : (x : Tree) (ts : List Token) → run (spell x ts) start ≡ with_roles (roles x) (run ts (behind_all x.features x.constraints x.classes))
-tree_run x ts = parts_run x.features x.constraints x.classes ts
+tree_run : (x : Tree) (ts : List Token) → run (spell x ts) start ≡ with_roles (roles x) (run ts (behind_all x.format x.features x.constraints x.classes))
+tree_run x ts =
+    format_run x.format (spell_features x.features (in_order spell_constraint x.constraints (in_order spell_class x.classes ts)))
+    ∙ ap (with_roles (roles_format x.format)) (parts_run x.format x.features x.constraints x.classes ts)
 
 -- the tokens of a tree are read, in the tree's roles, to the tree's value
-pub classes_run : (x : Tree) → run (spell x []) start ≡ (Some (behind_all x.features x.constraints x.classes), roles x [])
+pub classes_run : (x : Tree) → run (spell x []) start ≡ (Some (behind_all x.format x.features x.constraints x.classes), roles x [])
 unfolding run_of
 classes_run x = tree_run x []
 
 -- behind them the text may end
-end_run : (fs : List (List ℕ)) (xs : List IffTree) (ks : List ClassTree) → run (End ∷ []) (behind_all fs xs ks) ≡ (Some (record (behind_all fs xs ks) { mode = AtEnd }), other_token ∷ [])
+end_run : (format : Format) (fs : List (List ℕ)) (xs : List IffTree) (ks : List ClassTree) → run (End ∷ []) (behind_all format fs xs ks) ≡ (Some (record (behind_all format fs xs ks) { mode = AtEnd }), other_token ∷ [])
 unfolding run_of
-end_run [] [] [] = refl
-end_run (f ∷ fs) xs [] = refl
-end_run [] (x ∷ xs) [] = refl
-end_run fs xs (k ∷ ks) = refl
+end_run format [] [] [] = refl
+end_run format (f ∷ fs) xs [] = refl
+end_run format [] (x ∷ xs) [] = refl
+end_run format fs xs (k ∷ ks) = refl
 
 -- the state behind a tree and the end of the text
 abbrev pub ended : Tree → State
-ended x = record (behind_all x.features x.constraints x.classes) { mode = AtEnd }
+ended x = record (behind_all x.format x.features x.constraints x.classes) { mode = AtEnd }
 
 -- and so is the whole text
 pub text_runs : (x : Tree) → run (spell x (End ∷ [])) start ≡ (Some (ended x), roles x (other_token ∷ []))
-text_runs x = tree_run x (End ∷ []) ∙ ap (with_roles (roles x)) (end_run x.features x.constraints x.classes)
+text_runs x = tree_run x (End ∷ []) ∙ ap (with_roles (roles x)) (end_run x.format x.features x.constraints x.classes)

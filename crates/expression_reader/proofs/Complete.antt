@@ -1,18 +1,20 @@
 -- What a tree spells is read as what it stands for, in its roles.
-use Rattle.std.proofs.Common.{◌≡◌, ℕ, ◌+◌, List, [], ◌∷◌, ◌++◌, Option, Some, None, refl, ◌∙◌, ap, append_assoc}
-use Rattle.std.specs.Prelude.{bit_or}
+use Rattle.std.proofs.Common.{◌≡◌, ℕ, ◌+◌, Bool, true, false, List, [], ◌∷◌, ◌++◌, Option, Some, None, refl, ◌∙◌, ap, append_assoc}
 use Rattle.cfj_model.specs.declared.expr.Arg.{Arg}
 use Rattle.cfj_model.specs.declared.expr.Expr.{Expr}
 use Rattle.cfj_model.specs.declared.expr.Expr.TheVariants as e
-use Rattle.cfj_model.specs.Marks.{spell_marks, roles_marks, color_of, colored, colors_of}
-use Rattle.cfj_words.specs.Tokens.{Token, CloseParen, Comma, Dot, Semicolon}
+use Rattle.cfj_model.specs.declared.signed.Signed.{Signed}
+use Rattle.cfj_logic.specs.Sides.{Sides}
+use Rattle.cfj_model.specs.Coloring.{no_colors}
+use Rattle.cfj_model.specs.Marks.{spell_sign, spell_marks, roles_sign, roles_mark, roles_marks, marked, colored, colors_of}
+use Rattle.cfj_words.specs.Tokens.{Token, Id, CloseParen, Comma, Dot, Semicolon}
 use Rattle.cfj_model.specs.Roles.{Role, casts, node, opens, other_token, used_name, var_name, mark_name}
 use Rattle.cfj_model.specs.ExpressionGrammar.{ExprTree, cast, chain, StartTree, variable, this_word, made, bracket, StepsTree, stop, get, call, ArgsTree, no_args, first_arg, MoreArgsTree, no_more, next_arg, spell_expr, spell_start, spell_steps, spell_args, spell_more_args, roles_expr, roles_start, roles_steps, roles_args, roles_more_args, value_expr, value_start, value_steps, value_args, value_more_args}
 use Rattle.expression_reader.specs.declared.frame.Frame.{Frame}
 use Rattle.expression_reader.specs.declared.frame.Frame.TheVariants.{InBracket, InCast, InArgs}
 use Rattle.expression_reader.specs.declared.frame.Head.{Head}
 use Rattle.expression_reader.specs.declared.frame.Head.TheVariants.{OfCall, OfNew}
-use Rattle.expression_reader.specs.declared.mode.Mode.TheVariants.{Begin, FirstArg, InMarks, Paren, ParenClosed, After, AfterMember}
+use Rattle.expression_reader.specs.declared.mode.Mode.TheVariants.{Begin, FirstArg, InMarks, AfterAt, Paren, ParenClosed, After, AfterMember}
 use Rattle.expression_reader.specs.Machine.{State, at, start, done, applied, colored_arg, open_frames, Run, with_roles, then_run, run}
 
 -- the texts that may follow an expression
@@ -99,7 +101,7 @@ begins_cast fs (chain (made d args) ss) ts c frames n = refl
 begins_cast fs (chain (bracket t) ss) ts c frames n = refl
 
 -- The expression of an argument begins, behind its marks.
-begins_arg : (fs : List (List ℕ)) (t : ExprTree) (ts : List Token) (h : Head) (before : List Arg) (colors : ℕ) (frames : List Frame) (n : ℕ) →
+begins_arg : (fs : List (List ℕ)) (t : ExprTree) (ts : List Token) (h : Head) (before : List Arg) (colors : Sides) (frames : List Frame) (n : ℕ) →
     run fs (spell_expr t ts) (at frames (InMarks h before colors) n) ≡ run fs (spell_expr t ts) (at (InArgs h before colors ∷ frames) Begin n)
 unfolding run
 begins_arg fs (cast d t) ts h before colors frames n = refl
@@ -109,8 +111,8 @@ begins_arg fs (chain (made d args) ss) ts h before colors frames n = refl
 begins_arg fs (chain (bracket t) ss) ts h before colors frames n = refl
 
 -- The first argument begins as the others do.
-begins_first : (fs ms : List (List ℕ)) (t : ExprTree) (ts : List Token) (h : Head) (frames : List Frame) (n : ℕ) →
-    run fs (spell_marks ms (spell_expr t ts)) (at frames (FirstArg h) n) ≡ run fs (spell_marks ms (spell_expr t ts)) (at frames (InMarks h [] 0) n)
+begins_first : (fs : List (List ℕ)) (ms : List Signed) (t : ExprTree) (ts : List Token) (h : Head) (frames : List Frame) (n : ℕ) →
+    run fs (spell_marks ms (spell_expr t ts)) (at frames (FirstArg h) n) ≡ run fs (spell_marks ms (spell_expr t ts)) (at frames (InMarks h [] no_colors) n)
 unfolding run
 begins_first fs [] (cast d t) ts h frames n = refl
 begins_first fs [] (chain (variable w) ss) ts h frames n = refl
@@ -119,11 +121,21 @@ begins_first fs [] (chain (made d args) ss) ts h frames n = refl
 begins_first fs [] (chain (bracket t) ss) ts h frames n = refl
 begins_first fs (m ∷ ms) t ts h frames n = refl
 
-marks_run : (fs ms : List (List ℕ)) (ts : List Token) (h : Head) (before : List Arg) (colors : ℕ) (frames : List Frame) (n : ℕ) →
+-- behind its `@` a mark is read, with its `!` or without
+mark_run : (fs : List (List ℕ)) (off : Bool) (w : List ℕ) (ts : List Token) (h : Head) (before : List Arg) (colors : Sides) (frames : List Frame) (n : ℕ) →
+    run fs (spell_sign off (Id w ∷ ts)) (at frames (AfterAt h before colors false) n)
+    ≡ on_roles (λ q. roles_sign off (mark_name w ∷ q)) (run fs ts (at frames (InMarks h before (marked fs colors (record { off = off; name = w }))) n))
+unfolding run
+mark_run fs false w ts h before colors frames n = refl
+mark_run fs true w ts h before colors frames n = refl
+
+marks_run : (fs : List (List ℕ)) (ms : List Signed) (ts : List Token) (h : Head) (before : List Arg) (colors : Sides) (frames : List Frame) (n : ℕ) →
     run fs (spell_marks ms ts) (at frames (InMarks h before colors) n) ≡ on_roles (roles_marks ms) (run fs ts (at frames (InMarks h before (colored fs colors ms)) n))
 unfolding run
 marks_run fs [] ts h before colors frames n = refl
-marks_run fs (m ∷ ms) ts h before colors frames n = ap (with_roles (other_token ∷ (mark_name m ∷ []))) (marks_run fs ms ts h before (bit_or colors (color_of fs m)) frames n)
+marks_run fs (m ∷ ms) ts h before colors frames n =
+    ap (with_roles (other_token ∷ [])) (mark_run fs m.off m.name (spell_marks ms ts) h before colors frames n)
+    ∙ ap (on_roles (roles_mark m)) (marks_run fs ms ts h before (marked fs colors m) frames n)
 
 -- A bracket begins.
 begins_bracket : (fs : List (List ℕ)) (t : ExprTree) (ts : List Token) → Follows ts → (frames : List Frame) (n : ℕ) →
@@ -138,15 +150,15 @@ begins_bracket fs (chain (made d args) ss) ts h frames n = refl
 begins_bracket fs (chain (bracket t) ss) ts h frames n = refl
 
 -- An argument is read, and those behind it, where its expression is, and they are.
-arg_runs : (fs ms : List (List ℕ)) (t : ExprTree) (more : MoreArgsTree) (ts : List Token) (h : Head) (before : List Arg) (frames : List Frame) (n : ℕ) (o : Run) →
+arg_runs : (fs : List (List ℕ)) (ms : List Signed) (t : ExprTree) (more : MoreArgsTree) (ts : List Token) (h : Head) (before : List Arg) (frames : List Frame) (n : ℕ) (o : Run) →
     run fs (spell_expr t (spell_more_args more (CloseParen ∷ ts))) (at (InArgs h before (colors_of fs ms) ∷ frames) Begin n)
     ≡ on_roles (roles_expr (open_frames frames + 1) t) (run fs (spell_more_args more (CloseParen ∷ ts)) (at (InArgs h before (colors_of fs ms) ∷ frames) (After (value_expr fs n t).0) (value_expr fs n t).1)) →
     run fs (spell_more_args more (CloseParen ∷ ts)) (at (InArgs h before (colors_of fs ms) ∷ frames) (After (value_expr fs n t).0) (value_expr fs n t).1)
     ≡ on_roles (λ q. roles_more_args (open_frames frames + 1) more (other_token ∷ q)) o →
-    run fs (spell_marks ms (spell_expr t (spell_more_args more (CloseParen ∷ ts)))) (at frames (InMarks h before 0) n)
+    run fs (spell_marks ms (spell_expr t (spell_more_args more (CloseParen ∷ ts)))) (at frames (InMarks h before no_colors) n)
     ≡ on_roles (λ q. roles_marks ms (roles_expr (open_frames frames + 1) t (roles_more_args (open_frames frames + 1) more (other_token ∷ q)))) o
 arg_runs fs ms t more ts h before frames n o tree rest =
-    marks_run fs ms (spell_expr t (spell_more_args more (CloseParen ∷ ts))) h before 0 frames n
+    marks_run fs ms (spell_expr t (spell_more_args more (CloseParen ∷ ts))) h before no_colors frames n
     ∙ ap (on_roles (roles_marks ms)) (begins_arg fs t (spell_more_args more (CloseParen ∷ ts)) h before (colors_of fs ms) frames n ∙ tree ∙ ap (on_roles (roles_expr (open_frames frames + 1) t)) rest)
 
 mutual
@@ -190,7 +202,7 @@ mutual
       begins_first fs ms t (spell_more_args more (CloseParen ∷ ts)) h frames n
       ∙ arg_runs fs ms t more ts h [] frames n _ (expr_runs fs t (spell_more_args more (CloseParen ∷ ts)) (ends_more more ts) (InArgs h [] (colors_of fs ms) ∷ frames) n) (more_run fs more ts h [] (colors_of fs ms) frames (value_expr fs n t).0 (value_expr fs n t).1)
 
-  more_run : (fs : List (List ℕ)) (more : MoreArgsTree) (ts : List Token) (h : Head) (before : List Arg) (colors : ℕ) (frames : List Frame) (x : Expr) (n : ℕ) →
+  more_run : (fs : List (List ℕ)) (more : MoreArgsTree) (ts : List Token) (h : Head) (before : List Arg) (colors : Sides) (frames : List Frame) (x : Expr) (n : ℕ) →
       run fs (spell_more_args more (CloseParen ∷ ts)) (at (InArgs h before colors ∷ frames) (After x) n)
       ≡ on_roles (λ q. roles_more_args (open_frames frames + 1) more (other_token ∷ q)) (run fs ts (at frames (After (applied h (value_more_args fs n (before ++ colored_arg colors x ∷ []) more).0)) (value_more_args fs n (before ++ colored_arg colors x ∷ []) more).1))
   more_run fs no_more ts h before colors frames x n = refl

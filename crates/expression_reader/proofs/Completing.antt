@@ -1,9 +1,8 @@
 -- Every state can be completed: tokens with which a text can end from it.
 use Rattle.std.proofs.Common.{◌≡◌, ℕ, ◌+◌, Bool, true, false, List, [], ◌∷◌, ◌++◌, refl, ◌∙◌, ap}
-use Rattle.std.specs.Prelude.{bit_or}
 use Rattle.cfj_model.specs.declared.expr.Expr.{Expr}
 use Rattle.cfj_model.specs.declared.expr.Expr.TheVariants as e
-use Rattle.cfj_model.specs.Marks.{color_of}
+use Rattle.cfj_model.specs.Marks.{marked}
 use Rattle.cfj_words.specs.Tokens.{Token, Id, OpenParen, CloseParen, At, Semicolon}
 use Rattle.cfj_model.specs.Roles.{Role}
 use Rattle.expression_reader.specs.declared.frame.Frame.{Frame}
@@ -72,7 +71,7 @@ unfolding run
 completes fs Begin frames n = record { more = Id [] ∷ closing frames; unmarked = closing_unmarked frames; others = _; goes = after_completes fs frames (e.Var n []) (n + 1); in_roles = refl }
 completes fs (FirstArg h) frames n = record { more = CloseParen ∷ closing frames; unmarked = closing_unmarked frames; others = _; goes = after_completes fs frames (applied h []) n; in_roles = refl }
 completes fs (InMarks h before colors) frames n = record { more = Id [] ∷ (CloseParen ∷ closing frames); unmarked = closing_unmarked frames; others = _; goes = after_completes fs frames (applied h (before ++ colored_arg colors (e.Var n []) ∷ [])) (n + 1); in_roles = refl }
-completes fs (AfterAt h before colors) frames n = record { more = Id [] ∷ (Id [] ∷ (CloseParen ∷ closing frames)); unmarked = closing_unmarked frames; others = _; goes = after_completes fs frames (applied h (before ++ colored_arg (bit_or colors (color_of fs [])) (e.Var n []) ∷ [])) (n + 1); in_roles = refl }
+completes fs (AfterAt h before colors off) frames n = record { more = Id [] ∷ (Id [] ∷ (CloseParen ∷ closing frames)); unmarked = closing_unmarked frames; others = _; goes = after_completes fs frames (applied h (before ++ colored_arg (marked fs colors (record { off = off; name = [] })) (e.Var n []) ∷ [])) (n + 1); in_roles = refl }
 completes fs Paren frames n = record { more = Id [] ∷ (CloseParen ∷ closing frames); unmarked = closing_unmarked frames; others = _; goes = closed_completes fs [] frames n; in_roles = closed_roles fs [] frames n }
 completes fs (ParenName w) frames n = record { more = CloseParen ∷ closing frames; unmarked = closing_unmarked frames; others = _; goes = closed_completes fs w frames n; in_roles = closed_roles fs w frames n }
 completes fs (ParenClosed w) frames n = record { more = closing frames; unmarked = closing_unmarked frames; others = _; goes = closed_completes fs w frames n; in_roles = closed_roles fs w frames n }

@@ -1,16 +1,22 @@
 -- The roles of a tree, and those that a run gives, are settled; and a tree's text and roles stand before any others.
-use Rattle.std.proofs.Common.{◌≡◌, ℕ, ◌+◌, ◌≤◌, true, List, [], ◌∷◌, ◌++◌, length, refl, ◌∙◌, ap, arith}
+use Rattle.std.proofs.Common.{◌≡◌, ℕ, ◌+◌, ◌≤◌, Bool, true, false, List, [], ◌∷◌, ◌++◌, length, refl, ◌∙◌, ap, arith}
 use Rattle.std.proofs.lemmas.Bool.{and_from, le-leb}
-use Rattle.cfj_model.specs.Marks.{spell_marks, roles_marks}
+use Rattle.cfj_model.specs.declared.signed.Signed.{Signed}
+use Rattle.cfj_model.specs.Marks.{spell_sign, spell_marks, roles_sign, roles_marks}
 use Rattle.cfj_words.specs.Tokens.{Token, Id, NewWord, OpenParen, CloseParen, Comma, Dot, At}
 use Rattle.cfj_model.specs.Roles.{Role, casts, node, opens, other_token, used_name, mark_name, are_settled}
 use Rattle.cfj_model.specs.ExpressionGrammar.{ExprTree, cast, chain, StartTree, variable, this_word, made, bracket, StepsTree, stop, get, call, ArgsTree, no_args, first_arg, MoreArgsTree, no_more, next_arg, spell_expr, spell_start, spell_steps, spell_args, spell_more_args, roles_expr, roles_start, roles_steps, roles_args, roles_more_args}
 
 -- ---- a longer text
 
-marks_before : (ms : List (List ℕ)) (us rest : List Token) → spell_marks ms us ++ rest ≡ spell_marks ms (us ++ rest)
+sign_before : (off : Bool) (us rest : List Token) → spell_sign off us ++ rest ≡ spell_sign off (us ++ rest)
+sign_before false us rest = refl
+sign_before true us rest = refl
+
+marks_before : (ms : List Signed) (us rest : List Token) → spell_marks ms us ++ rest ≡ spell_marks ms (us ++ rest)
 marks_before [] us rest = refl
-marks_before (m ∷ ms) us rest = ap (λ w. At ∷ (Id m ∷ w)) (marks_before ms us rest)
+marks_before (m ∷ ms) us rest =
+    ap (λ w. At ∷ w) (sign_before m.off (Id m.name ∷ spell_marks ms us) rest ∙ ap (λ w. spell_sign m.off (Id m.name ∷ w)) (marks_before ms us rest))
 
 mutual
   -- What follows a tree's text may be longer.
@@ -37,9 +43,15 @@ mutual
   more_before no_more us rest = refl
   more_before (next_arg ms t more) us rest = ap (λ w. Comma ∷ w) (marks_before ms (spell_expr t (spell_more_args more us)) rest ∙ ap (spell_marks ms) (spell_before t (spell_more_args more us) rest ∙ ap (spell_expr t) (more_before more us rest)))
 
-mark_roles_before : (ms : List (List ℕ)) (us rest : List Role) → roles_marks ms us ++ rest ≡ roles_marks ms (us ++ rest)
+sign_role_before : (off : Bool) (us rest : List Role) → roles_sign off us ++ rest ≡ roles_sign off (us ++ rest)
+sign_role_before false us rest = refl
+sign_role_before true us rest = refl
+
+mark_roles_before : (ms : List Signed) (us rest : List Role) → roles_marks ms us ++ rest ≡ roles_marks ms (us ++ rest)
 mark_roles_before [] us rest = refl
-mark_roles_before (m ∷ ms) us rest = ap (λ w. other_token ∷ (mark_name m ∷ w)) (mark_roles_before ms us rest)
+mark_roles_before (m ∷ ms) us rest =
+    ap (λ w. other_token ∷ w)
+    (sign_role_before m.off (mark_name m.name ∷ roles_marks ms us) rest ∙ ap (λ w. roles_sign m.off (mark_name m.name ∷ w)) (mark_roles_before ms us rest))
 
 mutual
   -- What follows a tree's roles may be longer.
@@ -74,9 +86,13 @@ record Fixed (rs : List Role) (least : ℕ) : Type 0 where
   enough : least ≤ length rs
 
 -- roles before settled ones
-marks_fixed : (ms : List (List ℕ)) (rest : List Role) (k : ℕ) → Fixed rest k → Fixed (roles_marks ms rest) k
+mark_fixed : (off : Bool) (w : List ℕ) (rest : List Role) (k : ℕ) → Fixed rest k → Fixed (other_token ∷ roles_sign off (mark_name w ∷ rest)) k
+mark_fixed false w rest k h = record { settled = h.settled; enough = omega (arith, h.enough) }
+mark_fixed true w rest k h = record { settled = h.settled; enough = omega (arith, h.enough) }
+
+marks_fixed : (ms : List Signed) (rest : List Role) (k : ℕ) → Fixed rest k → Fixed (roles_marks ms rest) k
 marks_fixed [] rest k h = h
-marks_fixed (m ∷ ms) rest k h = let g = marks_fixed ms rest k h in record { settled = g.settled; enough = omega (arith, g.enough) }
+marks_fixed (m ∷ ms) rest k h = mark_fixed m.off m.name (roles_marks ms rest) k (marks_fixed ms rest k h)
 
 mutual
   expr_fixed : (d : ℕ) (x : ExprTree) (rest : List Role) (k : ℕ) → Fixed rest k → Fixed (roles_expr d x rest) (k + 1)

@@ -5,8 +5,8 @@ use Rattle.std.specs.List.{list_all}
 use Rattle.std.proofs.lemmas.Bool.{and_from, and_parts, le-leb}
 use Rattle.cfj_model.specs.declared.expr.Expr.{Expr}
 use Rattle.cfj_model.specs.declared.expr.Expr.TheVariants as e
-use Rattle.cfj_words.specs.Tokens.{Token, Id, NewWord, ThisWord, OpenParen, CloseParen, Comma, Dot, At, Semicolon}
-use Rattle.cfj_model.specs.Roles.{Role, casts, node, opens, other_token, used_name, var_name, mark_name, is_settled, are_settled, Tally, counted, tallied}
+use Rattle.cfj_words.specs.Tokens.{Token, Id, NewWord, ThisWord, OpenParen, CloseParen, Comma, Dot, At, Bang, Semicolon}
+use Rattle.cfj_model.specs.Roles.{Role, casts, node, opens, other_token, sign, used_name, var_name, mark_name, is_settled, are_settled, Tally, counted, tallied}
 use Rattle.expression_reader.specs.declared.frame.Frame.{Frame}
 use Rattle.expression_reader.specs.declared.frame.Frame.TheVariants.{InBracket, InCast, InArgs}
 use Rattle.expression_reader.specs.declared.mode.Mode.{Mode}
@@ -21,7 +21,7 @@ use Rattle.expression_reader.proofs.Law.{waits_on, run_long}
 -- ---- settled roles
 
 name_settled : (m : Mode) (w : List ℕ) (rest : List Role) → is_settled (name_role m w) rest ≡ true
-name_settled (AfterAt h before colors) w rest = refl
+name_settled (AfterAt h before colors off) w rest = refl
 name_settled (AfterDot x) w rest = refl
 name_settled AfterNew w rest = refl
 name_settled _ w rest = refl
@@ -63,7 +63,7 @@ emitted_settled (ParenClosed w) frames n _ rest le h = h
 emitted_settled Begin frames n t rest le h = unless_settled (waits_in Begin t) _ rest (role_settled Begin _ t rest) h
 emitted_settled (FirstArg x) frames n t rest le h = unless_settled (waits_in (FirstArg x) t) _ rest (role_settled (FirstArg x) _ t rest) h
 emitted_settled (InMarks x before colors) frames n t rest le h = unless_settled (waits_in (InMarks x before colors) t) _ rest (role_settled (InMarks x before colors) _ t rest) h
-emitted_settled (AfterAt x before colors) frames n t rest le h = unless_settled false _ rest (role_settled (AfterAt x before colors) _ t rest) h
+emitted_settled (AfterAt x before colors off) frames n t rest le h = unless_settled false _ rest (role_settled (AfterAt x before colors off) _ t rest) h
 emitted_settled (After x) frames n t rest le h = unless_settled false _ rest (role_settled (After x) _ t rest) h
 emitted_settled (AfterDot x) frames n t rest le h = unless_settled false _ rest (role_settled (AfterDot x) _ t rest) h
 emitted_settled (AfterMember x w) frames n t rest le h = unless_settled false _ rest (role_settled (AfterMember x w) _ t rest) h
@@ -140,8 +140,9 @@ step_slot fs (InMarks h before colors) frames n NewWord = omega arith
 step_slot fs (InMarks h before colors) frames n OpenParen = omega arith
 step_slot fs (InMarks h before colors) frames n At = omega arith
 step_slot fs (InMarks h before colors) frames n _ = tt
-step_slot fs (AfterAt h before colors) frames n (Id w) = omega arith
-step_slot fs (AfterAt h before colors) frames n _ = tt
+step_slot fs (AfterAt h before colors off) frames n (Id w) = omega arith
+step_slot fs (AfterAt h before colors false) frames n Bang = omega arith
+step_slot fs (AfterAt h before colors off) frames n _ = tt
 step_slot fs Paren frames n (Id w) = omega arith
 step_slot fs Paren frames n ThisWord = omega arith
 step_slot fs Paren frames n NewWord = omega arith
@@ -181,7 +182,7 @@ step_slot fs (Done x) frames n t = tt
 -- ---- the tally of the roles that a step settles
 
 name_of_body : (m : Mode) (w : List ℕ) → is_role_of_body (name_role m w) ≡ true
-name_of_body (AfterAt h before colors) w = refl
+name_of_body (AfterAt h before colors off) w = refl
 name_of_body (AfterDot x) w = refl
 name_of_body AfterNew w = refl
 name_of_body _ w = refl
@@ -240,6 +241,7 @@ one_counted t (used_name w) h = omega arith
 one_counted t (mark_name w) h = omega arith
 one_counted t (opens d) h = omega arith
 one_counted t (casts d) h = refl
+one_counted t sign h = omega arith
 one_counted t node h = refl
 one_counted t other_token h = omega arith
 one_counted t _ h = absurd (let no : ⊥ = cc h in no)

@@ -1,10 +1,7 @@
 -- A tree whose tokens break nothing stands for an expression of which a project's type keeps what it asks of a body.
-use Rattle.std.proofs.Common.{◌≡◌, ℕ, ◌+◌, ◌^◌, ◌≤◌, ◌<◌, Bool, true, false, ◌||◌, List, [], ◌∷◌, ◌++◌, length, refl, subst, arith, Some, None, nat_le, bytes_eq}
-use Rattle.std.specs.Prelude.{nat_lt, bit_or, codes}
-use Rattle.std.specs.List.{position_or_len}
-use Rattle.std.proofs.Math.Pow.{pow-lt, pow_pos}
-use Rattle.std.proofs.lemmas.Nat.{or_lt}
-use Rattle.std.proofs.lemmas.Bool.{and_parts, ltb-true, ltb-false, lt-ltb, leb-false, cond_both}
+use Rattle.std.proofs.Common.{◌≡◌, ℕ, ◌+◌, ◌≤◌, ◌<◌, Bool, true, false, ◌||◌, List, [], ◌∷◌, ◌++◌, refl, subst, arith, None, nat_le, bytes_eq}
+use Rattle.std.specs.Prelude.{nat_lt, codes}
+use Rattle.std.proofs.lemmas.Bool.{and_parts, ltb-false, leb-false}
 use Rattle.cfj_model.specs.declared.expr.Arg.{Arg}
 use Rattle.cfj_model.specs.declared.expr.Expr.{Expr}
 use Rattle.cfj_model.specs.declared.expr.Expr.TheVariants as e
@@ -12,9 +9,9 @@ use Rattle.cfj_model.specs.declared.fault.FaultKind.{FaultKind}
 use Rattle.cfj_model.specs.declared.fault.FaultKind.TheVariants.{Limit}
 use Rattle.cfj_model.specs.declared.fault.LimitKind.TheVariants as limit
 use Rattle.cfj_words.specs.Names.{is_identifier, is_short_identifier}
-use Rattle.cfj_model.specs.Coloring.{are_known}
 use Rattle.cfj_model.specs.Expressions.{node_count}
-use Rattle.cfj_model.specs.Marks.{spell_marks, roles_marks, color_at, color_of, colored, colors_of}
+use Rattle.cfj_model.specs.declared.signed.Signed.{Signed}
+use Rattle.cfj_model.specs.Marks.{spell_marks, roles_marks, colors_of}
 use Rattle.cfj_model.specs.ProductLines.{most_nest, most_nodes, most_size}
 use Rattle.cfj_words.specs.Tokens.{Token, Id, ThisWord, OpenParen, CloseParen, Dot}
 use Rattle.cfj_model.specs.Roles.{Role, node, opens, other_token, used_name, var_name, Tally, first_of, is_long, past_nest, past_nodes, past_size, broken_by, AreWithin}
@@ -22,6 +19,7 @@ use Rattle.cfj_model.specs.ExpressionGrammar.{ExprTree, cast, chain, StartTree, 
 use Rattle.fj_symbols.specs.Views.{are_read}
 use Rattle.expression_reader.specs.Laws.{IsKept}
 use Rattle.expression_reader.proofs.Bodies.{Known, Chain, chain_ends, bracketed_known, ArgsKnown, none_known, args_more, var_known, get_known, call_known, new_known, cast_known, body_known}
+use Rattle.expression_reader.proofs.KnownColors.{palette_over, colors_known, marks_kept}
 use Rattle.expression_reader.proofs.Short.{none_first, or_left, short_identifier}
 
 -- ---- what one token's role says
@@ -47,24 +45,6 @@ nests d rest h = let a = none_first (nat_lt most_nest d) (Limit limit.Nest) rest
 or_right : (a b : Bool) → b ≡ true → (a || b) ≡ true
 or_right true b h = refl
 or_right false b h = h
-
--- ---- colours
-
--- a mark's colour is a feature's, or none
-color_below : (features : List (List ℕ)) (m : List ℕ) → color_of features m < 2 ^ length features
-color_below features m =
-    cond_both (nat_lt (position_or_len (λ f. bytes_eq f m) features) (length features)) (Some (position_or_len (λ f. bytes_eq f m) features)) None (λ o. color_at o < 2 ^ length features)
-    (λ h. let below : position_or_len (λ f. bytes_eq f m) features < length features = ltb-true (position_or_len (λ f. bytes_eq f m) features) (length features) h in pow-lt below)
-    (λ h. pow_pos (length features))
-
--- More marks keep a set's colours among the features.
-colored_below : (features : List (List ℕ)) (colors : ℕ) (ms : List (List ℕ)) → colors < 2 ^ length features → colored features colors ms < 2 ^ length features
-colored_below features colors [] h = h
-colored_below features colors (m ∷ ms) h = colored_below features (bit_or colors (color_of features m)) ms (or_lt (length features) colors (color_of features m) h (color_below features m))
-
--- the colours of an argument are features
-known_colors : (features ms : List (List ℕ)) → are_known (length features) (colors_of features ms) ≡ true
-known_colors features ms = lt-ltb (colors_of features ms) (2 ^ length features) (colored_below features 0 ms (pow_pos (length features)))
 
 -- ---- what is known behind tokens
 
@@ -93,29 +73,16 @@ record Before (t : Tally) (d : ℕ) (rs : List Role) (ts : List Token) : Type 0 
   read : are_read ts ≡ true
 
 record ExprKept (fs : List (List ℕ)) (t : Tally) (d n m : ℕ) (x : Expr) (rest : List Role) (more : List Token) : Type 0 where
-  known : Known (length fs) n m d x
+  known : Known (palette_over t.format fs) n m d x
   behind : Behind t n m rest more
 
 record ChainKept (fs : List (List ℕ)) (t : Tally) (d from n m : ℕ) (x : Expr) (rest : List Role) (more : List Token) : Type 0 where
-  known : Chain (length fs) from m d x
+  known : Chain (palette_over t.format fs) from m d x
   behind : Behind t n m rest more
 
 record ArgsKept (fs : List (List ℕ)) (t : Tally) (d from n m : ℕ) (args : List Arg) (rest : List Role) (more : List Token) : Type 0 where
-  known : ArgsKnown (length fs) d from args m
+  known : ArgsKnown (palette_over t.format fs) d from args m
   behind : Behind t n m rest more
-
--- what is known behind the marks of an argument
-record MarksKept (t : Tally) (rest : List Role) (more : List Token) : Type 0 where
-  marks : List (List ℕ)
-  within : AreWithin (record t { marks = marks }) rest
-  read : are_read more ≡ true
-
-marks_kept : (t : Tally) (ms : List (List ℕ)) (rest : List Role) (more : List Token) → AreWithin t (roles_marks ms rest) → are_read (spell_marks ms more) ≡ true → MarksKept t rest more
-marks_kept t [] rest more w r = record { marks = t.marks; within = w; read = r }
-marks_kept t (m ∷ ms) rest more (at, (name, w)) r =
-    let u : Tally = record t { marks = t.marks ++ m ∷ [] } in
-    let k : MarksKept u rest more = marks_kept u ms rest more w (and_parts (is_identifier m) (are_read (spell_marks ms more)) r).1 in
-    record { marks = k.marks; within = k.within; read = k.read }
 
 -- before a part of what follows
 before_behind : {t : Tally} {d n m : ℕ} {rest : List Role} {more : List Token} → d ≤ most_nest → (b : Behind t n m rest more) → Before (record t { marks = b.marks; nodes = b.nodes; size = b.size }) d rest more
@@ -133,7 +100,7 @@ variable_kept fs t d n w rest more h =
     let r : Room t = room t a.1 in
     let i = and_parts (is_identifier w) (are_read more) h.read in
     record {
-      known = var_known (length fs) n d w h.open_few (or_left (is_short_identifier w) (bytes_eq w (codes "this")) (short_identifier w i.0 a.0));
+      known = var_known (palette_over t.format fs) n d w h.open_few (or_left (is_short_identifier w) (bytes_eq w (codes "this")) (short_identifier w i.0 a.0));
       behind = record { marks = []; nodes = t.nodes + 1; size = t.size + 1; nodes_rise = omega arith; size_rises = omega arith; few = omega (arith, r.nodes); small = omega (arith, r.size); within = h.within.1; read = i.1 };
     }
 
@@ -141,7 +108,7 @@ this_kept : (fs : List (List ℕ)) (t : Tally) (d n : ℕ) (rest : List Role) (m
 this_kept fs t d n rest more h =
     let r : Room t = room t h.within.0 in
     record {
-      known = var_known (length fs) n d (codes "this") h.open_few (or_right (is_short_identifier (codes "this")) (bytes_eq (codes "this") (codes "this")) refl);
+      known = var_known (palette_over t.format fs) n d (codes "this") h.open_few (or_right (is_short_identifier (codes "this")) (bytes_eq (codes "this") (codes "this")) refl);
       behind = record { marks = []; nodes = t.nodes + 1; size = t.size + 1; nodes_rise = omega arith; size_rises = omega arith; few = omega (arith, r.nodes); small = omega (arith, r.size); within = h.within.1; read = h.read };
     }
 
@@ -154,7 +121,7 @@ cast_kept fs t d n c x rest more h inner =
     let i = and_parts (is_identifier c) (are_read (spell_expr x more)) h.read in
     let k = inner (noded t) (record { open_few = a.0; few = omega (arith, r.nodes); small = omega (arith, r.size); within = h.within.1.1.1; read = i.1 }) in
     record {
-      known = cast_known (length fs) n _ d c _ (used_short c (noded t) i.0 h.within.1.0) k.known;
+      known = cast_known (palette_over t.format fs) n _ d c _ (used_short c (noded t) i.0 h.within.1.0) k.known;
       behind = record { marks = k.behind.marks; nodes = k.behind.nodes; size = k.behind.size; nodes_rise = omega (arith, k.behind.nodes_rise); size_rises = omega (arith, k.behind.size_rises); few = k.behind.few; small = k.behind.small; within = k.behind.within; read = k.behind.read };
     }
 
@@ -182,20 +149,20 @@ new_kept fs t d n c args rest more h inner =
     let i = and_parts (is_identifier c) (are_read (spell_args args (CloseParen ∷ more))) h.read in
     let k = inner (opened (noded t)) (record { open_few = a.0; few = omega (arith, r.nodes); small = omega (arith, r.size); within = h.within.1.1.1; read = i.1 }) in
     record {
-      known = new_known (length fs) n _ d c _ (used_short c (noded t) i.0 h.within.1.0) a.0 k.known;
+      known = new_known (palette_over t.format fs) n _ d c _ (used_short c (noded t) i.0 h.within.1.0) a.0 k.known;
       behind = record { marks = k.behind.marks; nodes = k.behind.nodes; size = k.behind.size; nodes_rise = omega (arith, k.behind.nodes_rise); size_rises = omega (arith, k.behind.size_rises); few = k.behind.few; small = k.behind.small; within = k.behind.within.1; read = k.behind.read };
     }
 
-get_kept : (fs : List (List ℕ)) (t : Tally) (d from n : ℕ) (x : Expr) (f : List ℕ) (rest : List Role) (more : List Token) → Chain (length fs) from n d x → Before t d (node ∷ (used_name f ∷ rest)) (Dot ∷ (Id f ∷ more)) → ChainKept fs t d from n (n + 1) (e.Get n x f) rest more
+get_kept : (fs : List (List ℕ)) (t : Tally) (d from n : ℕ) (x : Expr) (f : List ℕ) (rest : List Role) (more : List Token) → Chain (palette_over t.format fs) from n d x → Before t d (node ∷ (used_name f ∷ rest)) (Dot ∷ (Id f ∷ more)) → ChainKept fs t d from n (n + 1) (e.Get n x f) rest more
 get_kept fs t d from n x f rest more k h =
     let r : Room t = room t h.within.0 in
     let i = and_parts (is_identifier f) (are_read more) h.read in
     record {
-      known = get_known (length fs) from n d x f k (used_short f (noded t) i.0 h.within.1.0);
+      known = get_known (palette_over t.format fs) from n d x f k (used_short f (noded t) i.0 h.within.1.0);
       behind = record { marks = []; nodes = t.nodes + 1; size = t.size + 1; nodes_rise = omega arith; size_rises = omega arith; few = omega (arith, r.nodes); small = omega (arith, r.size); within = h.within.1.1; read = i.1 };
     }
 
-call_kept : (fs : List (List ℕ)) (t : Tally) (d from n : ℕ) (x : Expr) (m : List ℕ) (args : ArgsTree) (rest : List Role) (more : List Token) → Chain (length fs) from n d x →
+call_kept : (fs : List (List ℕ)) (t : Tally) (d from n : ℕ) (x : Expr) (m : List ℕ) (args : ArgsTree) (rest : List Role) (more : List Token) → Chain (palette_over t.format fs) from n d x →
     Before t d (node ∷ (used_name m ∷ (opens (d + 1) ∷ roles_args (d + 1) args (other_token ∷ rest)))) (Dot ∷ (Id m ∷ (OpenParen ∷ spell_args args (CloseParen ∷ more)))) →
     ((u : Tally) → Before u (d + 1) (roles_args (d + 1) args (other_token ∷ rest)) (spell_args args (CloseParen ∷ more)) → ArgsKept fs u (d + 1) (n + 1) (n + 1) (value_args fs (n + 1) args).1 (value_args fs (n + 1) args).0 (other_token ∷ rest) (CloseParen ∷ more)) →
     ChainKept fs t d from n (value_args fs (n + 1) args).1 (e.Call n x m (value_args fs (n + 1) args).0) rest more
@@ -205,18 +172,18 @@ call_kept fs t d from n x m args rest more before h inner =
     let i = and_parts (is_identifier m) (are_read (spell_args args (CloseParen ∷ more))) h.read in
     let k = inner (opened (noded t)) (record { open_few = a.0; few = omega (arith, r.nodes); small = omega (arith, r.size); within = h.within.1.1.1; read = i.1 }) in
     record {
-      known = call_known (length fs) from n _ d x m _ before (used_short m (noded t) i.0 h.within.1.0) a.0 k.known;
+      known = call_known (palette_over t.format fs) from n _ d x m _ before (used_short m (noded t) i.0 h.within.1.0) a.0 k.known;
       behind = record { marks = k.behind.marks; nodes = k.behind.nodes; size = k.behind.size; nodes_rise = omega (arith, k.behind.nodes_rise); size_rises = omega (arith, k.behind.size_rises); few = k.behind.few; small = k.behind.small; within = k.behind.within.1; read = k.behind.read };
     }
 
-arg_kept : (fs : List (List ℕ)) (t : Tally) (d from n : ℕ) (before : List Arg) (ms : List (List ℕ)) (x : ExprTree) (rest : List Role) (more : List Token) → ArgsKnown (length fs) d from before n → Before t d (roles_marks ms (roles_expr d x rest)) (spell_marks ms (spell_expr x more)) →
+arg_kept : (fs : List (List ℕ)) (t : Tally) (d from n : ℕ) (before : List Arg) (ms : List Signed) (x : ExprTree) (rest : List Role) (more : List Token) → ArgsKnown (palette_over t.format fs) d from before n → Before t d (roles_marks ms (roles_expr d x rest)) (spell_marks ms (spell_expr x more)) →
     ((u : Tally) → Before u d (roles_expr d x rest) (spell_expr x more) → ExprKept fs u d n (value_expr fs n x).1 (value_expr fs n x).0 rest more) →
     ArgsKept fs t d from n (value_expr fs n x).1 (before ++ record { colors = colors_of fs ms; expr = (value_expr fs n x).0 } ∷ []) rest more
 arg_kept fs t d from n before ms x rest more known h inner =
     let m = marks_kept t ms (roles_expr d x rest) (spell_expr x more) h.within h.read in
     let k = inner (record t { marks = m.marks }) (record { open_few = h.open_few; few = h.few; small = h.small; within = m.within; read = m.read }) in
     record {
-      known = args_more (length fs) d from n _ before _ known (known_colors fs ms) k.known;
+      known = args_more (palette_over t.format fs) d from n _ before _ known (colors_known t.format fs ms m.allowed) k.known;
       behind = record { marks = k.behind.marks; nodes = k.behind.nodes; size = k.behind.size; nodes_rise = k.behind.nodes_rise; size_rises = k.behind.size_rises; few = k.behind.few; small = k.behind.small; within = k.behind.within; read = k.behind.read };
     }
 
@@ -237,7 +204,7 @@ mutual
   start_kept fs t d n (bracket x) rest more h = bracket_kept fs t d n x rest more h (λ u b. expr_kept fs u (d + 1) n x (other_token ∷ rest) (CloseParen ∷ more) b)
 
   -- the steps of a chain, from what stands before them on
-  steps_kept : (fs : List (List ℕ)) (t : Tally) (d from n : ℕ) (x : Expr) (ss : StepsTree) (rest : List Role) (more : List Token) → Chain (length fs) from n d x → Before t d (roles_steps d ss rest) (spell_steps ss more) → ChainKept fs t d from n (value_steps fs n x ss).1 (value_steps fs n x ss).0 rest more
+  steps_kept : (fs : List (List ℕ)) (t : Tally) (d from n : ℕ) (x : Expr) (ss : StepsTree) (rest : List Role) (more : List Token) → Chain (palette_over t.format fs) from n d x → Before t d (roles_steps d ss rest) (spell_steps ss more) → ChainKept fs t d from n (value_steps fs n x ss).1 (value_steps fs n x ss).0 rest more
   steps_kept fs t d from n x stop rest more k h = record { known = k; behind = record { marks = t.marks; nodes = t.nodes; size = t.size; nodes_rise = refl; size_rises = refl; few = h.few; small = h.small; within = h.within; read = h.read } }
   steps_kept fs t d from n x (get f ss) rest more k h =
       let a = get_kept fs t d from n x f (roles_steps d ss rest) (spell_steps ss more) k h in
@@ -256,7 +223,7 @@ mutual
       record { known = b.known; behind = behind_both a.behind b.behind }
 
   -- the arguments behind some
-  more_kept : (fs : List (List ℕ)) (t : Tally) (d from n : ℕ) (before : List Arg) (xs : MoreArgsTree) (rest : List Role) (more : List Token) → ArgsKnown (length fs) d from before n → Before t d (roles_more_args d xs rest) (spell_more_args xs more) → ArgsKept fs t d from n (value_more_args fs n before xs).1 (value_more_args fs n before xs).0 rest more
+  more_kept : (fs : List (List ℕ)) (t : Tally) (d from n : ℕ) (before : List Arg) (xs : MoreArgsTree) (rest : List Role) (more : List Token) → ArgsKnown (palette_over t.format fs) d from before n → Before t d (roles_more_args d xs rest) (spell_more_args xs more) → ArgsKept fs t d from n (value_more_args fs n before xs).1 (value_more_args fs n before xs).0 rest more
   more_kept fs t d from n before no_more rest more k h = record { known = k; behind = record { marks = t.marks; nodes = t.nodes; size = t.size; nodes_rise = refl; size_rises = refl; few = h.few; small = h.small; within = h.within; read = h.read } }
   more_kept fs t d from n before (next_arg ms x xs) rest more k h =
       let a = arg_kept fs t d from n before ms x (roles_more_args d xs rest) (spell_more_args xs more) k (record { open_few = h.open_few; few = h.few; small = h.small; within = h.within.1; read = h.read }) (λ u b. expr_kept fs u d n x (roles_more_args d xs rest) (spell_more_args xs more) b) in
@@ -273,7 +240,7 @@ body_kept fs t x rest more none small w r =
     let nodes : k.behind.nodes ≡ node_count (value_expr fs 0 x).0 = omega (arith, count, none, k.behind.nodes_rise) in
     let size : k.behind.size ≡ t.size + node_count (value_expr fs 0 x).0 = omega (arith, count, k.behind.size_rises) in
     record {
-      is = body_known (length fs) m (value_expr fs 0 x).0 k.known (omega (arith, none, k.behind.few, k.behind.nodes_rise));
+      is = body_known (palette_over t.format fs) m (value_expr fs 0 x).0 k.known (omega (arith, none, k.behind.few, k.behind.nodes_rise));
       marks = k.behind.marks;
       small = omega (arith, size, k.behind.small);
       within = subst (λ a. AreWithin (record t { marks = k.behind.marks; nodes = a; size = t.size + node_count (value_expr fs 0 x).0 }) rest) nodes (subst (λ a. AreWithin (record t { marks = k.behind.marks; nodes = k.behind.nodes; size = a }) rest) size k.behind.within);

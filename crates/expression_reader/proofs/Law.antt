@@ -2,7 +2,7 @@
 use Rattle.std.proofs.Common.{◌≡◌, ℕ, ◌+◌, Bool, true, false, List, [], ◌∷◌, ◌++◌, length, map, Option, Some, None, refl, sym, ◌∙◌, ap, subst, arith, append_assoc, length-append, ◌⊎◌, inl, inr}
 use Rattle.cfj_model.specs.declared.expr.Expr.{Expr}
 use Rattle.cfj_model.specs.declared.expr.Expr.TheVariants as e
-use Rattle.cfj_words.specs.Tokens.{Token, Id, NewWord, ThisWord, OpenParen, CloseParen, Comma, Dot, At, Semicolon}
+use Rattle.cfj_words.specs.Tokens.{Token, Id, NewWord, ThisWord, OpenParen, CloseParen, Comma, Dot, At, Bang, Semicolon}
 use Rattle.cfj_model.specs.Roles.{Role, other_token, opens, var_name, used_name, is_settled, are_settled}
 use Rattle.cfj_model.specs.ExpressionGrammar.{roles_expr, value_expr}
 use Rattle.expression_reader.specs.declared.frame.Frame.{Frame}
@@ -101,8 +101,9 @@ step_waits fs (InMarks h before colors) frames n NewWord = refl
 step_waits fs (InMarks h before colors) frames n OpenParen = refl
 step_waits fs (InMarks h before colors) frames n At = refl
 step_waits fs (InMarks h before colors) frames n _ = tt
-step_waits fs (AfterAt h before colors) frames n (Id w) = refl
-step_waits fs (AfterAt h before colors) frames n _ = tt
+step_waits fs (AfterAt h before colors off) frames n (Id w) = refl
+step_waits fs (AfterAt h before colors false) frames n Bang = refl
+step_waits fs (AfterAt h before colors off) frames n _ = tt
 step_waits fs Paren frames n (Id w) = refl
 step_waits fs Paren frames n ThisWord = refl
 step_waits fs Paren frames n NewWord = refl
@@ -313,7 +314,7 @@ name_goes fs s w e = by s.mode e
     by Begin e = (_, refl)
     by (FirstArg h) e = (_, refl)
     by (InMarks h before colors) e = (_, refl)
-    by (AfterAt h before colors) e = (_, refl)
+    by (AfterAt h before colors off) e = (_, refl)
     by Paren e = (_, refl)
     by (ParenClosed v) e = (_, refl)
     by (AfterDot x) e = (_, refl)
@@ -371,8 +372,9 @@ after_ends_by x frames n _ = tt
 
 step_ends_by : (fs : List (List ℕ)) (m : Mode) (frames : List Frame) (n : ℕ) (t : Token) → EndsBy t (step_in fs m frames n t)
 step_ends_by fs m frames n Semicolon = tt
-step_ends_by fs (AfterAt h before colors) frames n (Id w) = refl
-step_ends_by fs (AfterAt h before colors) frames n _ = tt
+step_ends_by fs (AfterAt h before colors off) frames n (Id w) = refl
+step_ends_by fs (AfterAt h before colors false) frames n Bang = refl
+step_ends_by fs (AfterAt h before colors off) frames n _ = tt
 step_ends_by fs (AfterDot x) frames n (Id w) = refl
 step_ends_by fs (AfterDot x) frames n _ = tt
 step_ends_by fs AfterNew frames n (Id w) = refl

@@ -70,7 +70,7 @@ mark_short : (w : List ℕ) (t : Tally) → broken_by t (mark_name w) ≡ None �
 mark_short w t h = is_short_of w (none_first (is_long w) (Limit limit.Name) ((not (is_among t.features w), NoFeature w) ∷ ((is_among t.marks w, Twice w) ∷ [])) h).0
 
 name_short : (m : Mode) (w : List ℕ) (t : Tally) → broken_by t (name_role m w) ≡ None → is_short w ≡ true
-name_short (AfterAt x before colors) w t h = mark_short w t h
+name_short (AfterAt x before colors off) w t h = mark_short w t h
 name_short (AfterDot x) w t h = used_short w t h
 name_short AfterNew w t h = used_short w t h
 name_short _ w t h = var_short w t h

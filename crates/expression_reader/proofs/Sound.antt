@@ -1,11 +1,14 @@
 -- What is read to the end is what a tree spells.
 use Rattle.std.proofs.Common.{◌≡◌, ℕ, zero, suc, ◌+◌, ◌<◌, ◌≤◌, true, false, List, [], ◌∷◌, ◌++◌, length, refl, sym, ◌∙◌, ap, arith}
-use Rattle.std.specs.Prelude.{bit_or, codes}
+use Rattle.std.specs.Prelude.{codes}
 use Rattle.cfj_model.specs.declared.expr.Arg.{Arg}
 use Rattle.cfj_model.specs.declared.expr.Expr.{Expr}
 use Rattle.cfj_model.specs.declared.expr.Expr.TheVariants as e
-use Rattle.cfj_model.specs.Marks.{spell_marks, color_of}
-use Rattle.cfj_words.specs.Tokens.{Token, Id, NewWord, ThisWord, OpenParen, CloseParen, Comma, Dot, At, Semicolon}
+use Rattle.cfj_model.specs.declared.signed.Signed.{Signed}
+use Rattle.cfj_logic.specs.Sides.{Sides}
+use Rattle.cfj_model.specs.Coloring.{no_colors}
+use Rattle.cfj_model.specs.Marks.{spell_marks, marked}
+use Rattle.cfj_words.specs.Tokens.{Token, Id, NewWord, ThisWord, OpenParen, CloseParen, Comma, Dot, At, Bang, Semicolon}
 use Rattle.cfj_model.specs.ExpressionGrammar.{ExprTree, cast, chain, variable, this_word, made, bracket, StepsTree, stop, get, call, ArgsTree, no_args, first_arg, MoreArgsTree, no_more, next_arg, spell_expr, spell_steps, spell_args, spell_more_args}
 use Rattle.expression_reader.specs.declared.frame.Frame.{Frame}
 use Rattle.expression_reader.specs.declared.frame.Frame.TheVariants.{InBracket, InCast, InArgs}
@@ -51,7 +54,7 @@ record ReadArgs (fs : List (List ℕ)) (ts : List Token) (frames : List Frame) :
 
 -- an argument, its marks included, and those behind it
 record ReadArg (fs : List (List ℕ)) (ts : List Token) (frames : List Frame) : Type 0 where
-  marks : List (List ℕ)
+  marks : List Signed
   tree : ExprTree
   more : MoreArgsTree
   rest : List Token
@@ -96,8 +99,8 @@ closed_goes fs ts g w frames n h = ap (λ (p : Run). is_read_whole p.0) (sym (cl
 record Readers (fs : List (List ℕ)) (k : ℕ) : Type 0 where
   expr : (ts : List Token) → length ts ≤ k → (frames : List Frame) (n : ℕ) → Accepts fs ts (at frames Begin n) → ReadExpr fs ts frames
   steps : (ts : List Token) → length ts ≤ k → (frames : List Frame) (x : Expr) (n : ℕ) → Accepts fs ts (at frames (After x) n) → ReadSteps fs ts frames
-  arg : (ts : List Token) → length ts ≤ k → (h : Head) (before : List Arg) (colors : ℕ) (frames : List Frame) (n : ℕ) → Accepts fs ts (at frames (InMarks h before colors) n) → ReadArg fs ts frames
-  more : (ts : List Token) → Ends ts → length ts ≤ k → (h : Head) (before : List Arg) (colors : ℕ) (frames : List Frame) (x : Expr) (n : ℕ) → Accepts fs ts (at (InArgs h before colors ∷ frames) (After x) n) → ReadMore fs ts frames
+  arg : (ts : List Token) → length ts ≤ k → (h : Head) (before : List Arg) (colors : Sides) (frames : List Frame) (n : ℕ) → Accepts fs ts (at frames (InMarks h before colors) n) → ReadArg fs ts frames
+  more : (ts : List Token) → Ends ts → length ts ≤ k → (h : Head) (before : List Arg) (colors : Sides) (frames : List Frame) (x : Expr) (n : ℕ) → Accepts fs ts (at (InArgs h before colors ∷ frames) (After x) n) → ReadMore fs ts frames
 
 -- an argument list that isn't empty
 some_args : {fs : List (List ℕ)} {ts : List Token} {frames : List Frame} → ReadArg fs ts frames → ReadArgs fs ts frames
@@ -107,11 +110,11 @@ args_read : (fs : List (List ℕ)) (k : ℕ) (r : Readers fs k) (ts : List Token
 unfolding run
 args_read fs k r [] le h frames n g = never g
 args_read fs k r (CloseParen ∷ ts) le h frames n g = record { args = no_args; rest = ts; spelled = refl; shorter = omega arith; value = applied h []; slot = n; goes = g }
-args_read fs k r (At ∷ ts) le h frames n g = some_args (r.arg (At ∷ ts) le h [] 0 frames n g)
-args_read fs k r (Id w ∷ ts) le h frames n g = some_args (r.arg (Id w ∷ ts) le h [] 0 frames n g)
-args_read fs k r (ThisWord ∷ ts) le h frames n g = some_args (r.arg (ThisWord ∷ ts) le h [] 0 frames n g)
-args_read fs k r (NewWord ∷ ts) le h frames n g = some_args (r.arg (NewWord ∷ ts) le h [] 0 frames n g)
-args_read fs k r (OpenParen ∷ ts) le h frames n g = some_args (r.arg (OpenParen ∷ ts) le h [] 0 frames n g)
+args_read fs k r (At ∷ ts) le h frames n g = some_args (r.arg (At ∷ ts) le h [] no_colors frames n g)
+args_read fs k r (Id w ∷ ts) le h frames n g = some_args (r.arg (Id w ∷ ts) le h [] no_colors frames n g)
+args_read fs k r (ThisWord ∷ ts) le h frames n g = some_args (r.arg (ThisWord ∷ ts) le h [] no_colors frames n g)
+args_read fs k r (NewWord ∷ ts) le h frames n g = some_args (r.arg (NewWord ∷ ts) le h [] no_colors frames n g)
+args_read fs k r (OpenParen ∷ ts) le h frames n g = some_args (r.arg (OpenParen ∷ ts) le h [] no_colors frames n g)
 args_read fs k r (_ ∷ ts) le h frames n g = never g
 
 new_read : (fs : List (List ℕ)) (k : ℕ) (r : Readers fs k) (ts : List Token) → length ts ≤ k → (frames : List Frame) (n : ℕ) → Accepts fs ts (at frames AfterNew n) → ReadExpr fs (NewWord ∷ ts) frames
@@ -235,18 +238,25 @@ steps_read fs k r (Semicolon ∷ ts) le frames x n h = record { steps = stop; re
 steps_read fs k r (_ ∷ ts) le frames x n h = never h
 
 -- an argument without marks, and those behind it
-plain_arg : (fs : List (List ℕ)) (k : ℕ) (r : Readers fs k) (ts : List Token) → length ts ≤ suc k → (h : Head) (before : List Arg) (colors : ℕ) (frames : List Frame) → ReadExpr fs ts (InArgs h before colors ∷ frames) → ReadArg fs ts frames
+plain_arg : (fs : List (List ℕ)) (k : ℕ) (r : Readers fs k) (ts : List Token) → length ts ≤ suc k → (h : Head) (before : List Arg) (colors : Sides) (frames : List Frame) → ReadExpr fs ts (InArgs h before colors ∷ frames) → ReadArg fs ts frames
 plain_arg fs k r ts le h before colors frames a =
     let m = r.more a.rest a.ended (omega (arith, a.shorter)) h before colors frames a.value a.slot a.goes in
     record { marks = []; tree = a.tree; more = m.more; rest = m.rest; spelled = a.spelled ∙ ap (spell_expr a.tree) m.spelled; shorter = omega (arith, a.shorter, m.shorter); value = m.value; slot = m.slot; goes = m.goes }
 
-arg_read : (fs : List (List ℕ)) (k : ℕ) (r : Readers fs k) (ts : List Token) → length ts ≤ suc k → (h : Head) (before : List Arg) (colors : ℕ) (frames : List Frame) (n : ℕ) → Accepts fs ts (at frames (InMarks h before colors) n) → ReadArg fs ts frames
+arg_read : (fs : List (List ℕ)) (k : ℕ) (r : Readers fs k) (ts : List Token) → length ts ≤ suc k → (h : Head) (before : List Arg) (colors : Sides) (frames : List Frame) (n : ℕ) → Accepts fs ts (at frames (InMarks h before colors) n) → ReadArg fs ts frames
 unfolding run
 arg_read fs k r [] le h before colors frames n g = never g
 arg_read fs k r (At ∷ []) le h before colors frames n g = never g
 arg_read fs k r (At ∷ (Id m ∷ ts)) le h before colors frames n g =
-    let a = r.arg ts (omega arith) h before (bit_or colors (color_of fs m)) frames n g in
-    record { marks = m ∷ a.marks; tree = a.tree; more = a.more; rest = a.rest; spelled = ap (λ w. At ∷ (Id m ∷ w)) a.spelled; shorter = omega (arith, a.shorter); value = a.value; slot = a.slot; goes = a.goes }
+    let mark : Signed = record { off = false; name = m } in
+    let a = r.arg ts (omega arith) h before (marked fs colors mark) frames n g in
+    record { marks = mark ∷ a.marks; tree = a.tree; more = a.more; rest = a.rest; spelled = ap (λ w. At ∷ (Id m ∷ w)) a.spelled; shorter = omega (arith, a.shorter); value = a.value; slot = a.slot; goes = a.goes }
+arg_read fs k r (At ∷ (Bang ∷ [])) le h before colors frames n g = never g
+arg_read fs k r (At ∷ (Bang ∷ (Id m ∷ ts))) le h before colors frames n g =
+    let mark : Signed = record { off = true; name = m } in
+    let a = r.arg ts (omega arith) h before (marked fs colors mark) frames n g in
+    record { marks = mark ∷ a.marks; tree = a.tree; more = a.more; rest = a.rest; spelled = ap (λ w. At ∷ (Bang ∷ (Id m ∷ w))) a.spelled; shorter = omega (arith, a.shorter); value = a.value; slot = a.slot; goes = a.goes }
+arg_read fs k r (At ∷ (Bang ∷ (_ ∷ ts))) le h before colors frames n g = never g
 arg_read fs k r (At ∷ (_ ∷ ts)) le h before colors frames n g = never g
 arg_read fs k r (Id w ∷ ts) le h before colors frames n g = plain_arg fs k r (Id w ∷ ts) le h before colors frames (expr_read fs k r (Id w ∷ ts) le (InArgs h before colors ∷ frames) n g)
 arg_read fs k r (ThisWord ∷ ts) le h before colors frames n g = plain_arg fs k r (ThisWord ∷ ts) le h before colors frames (expr_read fs k r (ThisWord ∷ ts) le (InArgs h before colors ∷ frames) n g)
@@ -254,11 +264,11 @@ arg_read fs k r (NewWord ∷ ts) le h before colors frames n g = plain_arg fs k 
 arg_read fs k r (OpenParen ∷ ts) le h before colors frames n g = plain_arg fs k r (OpenParen ∷ ts) le h before colors frames (expr_read fs k r (OpenParen ∷ ts) le (InArgs h before colors ∷ frames) n g)
 arg_read fs k r (_ ∷ ts) le h before colors frames n g = never g
 
-more_read : (fs : List (List ℕ)) (k : ℕ) (r : Readers fs k) (ts : List Token) → Ends ts → length ts ≤ suc k → (h : Head) (before : List Arg) (colors : ℕ) (frames : List Frame) (x : Expr) (n : ℕ) → Accepts fs ts (at (InArgs h before colors ∷ frames) (After x) n) → ReadMore fs ts frames
+more_read : (fs : List (List ℕ)) (k : ℕ) (r : Readers fs k) (ts : List Token) → Ends ts → length ts ≤ suc k → (h : Head) (before : List Arg) (colors : Sides) (frames : List Frame) (x : Expr) (n : ℕ) → Accepts fs ts (at (InArgs h before colors ∷ frames) (After x) n) → ReadMore fs ts frames
 unfolding run
 more_read fs k r _ (at_close ts) le h before colors frames x n g = record { more = no_more; rest = ts; spelled = refl; shorter = omega arith; value = applied h (before ++ colored_arg colors x ∷ []); slot = n; goes = g }
 more_read fs k r _ (at_comma ts) le h before colors frames x n g =
-    let a = r.arg ts (omega arith) h (before ++ colored_arg colors x ∷ []) 0 frames n g in
+    let a = r.arg ts (omega arith) h (before ++ colored_arg colors x ∷ []) no_colors frames n g in
     record { more = next_arg a.marks a.tree a.more; rest = a.rest; spelled = ap (λ w. Comma ∷ w) a.spelled; shorter = omega (arith, a.shorter); value = a.value; slot = a.slot; goes = a.goes }
 more_read fs k r _ (at_semicolon ts) le h before colors frames x n g = never g
 
@@ -273,12 +283,12 @@ unfolding run
 zero_steps fs [] le frames x n h = never h
 zero_steps fs (t ∷ ts) le frames x n h = absurd (omega arith)
 
-zero_arg : (fs : List (List ℕ)) (ts : List Token) → length ts ≤ 0 → (h : Head) (before : List Arg) (colors : ℕ) (frames : List Frame) (n : ℕ) → Accepts fs ts (at frames (InMarks h before colors) n) → ReadArg fs ts frames
+zero_arg : (fs : List (List ℕ)) (ts : List Token) → length ts ≤ 0 → (h : Head) (before : List Arg) (colors : Sides) (frames : List Frame) (n : ℕ) → Accepts fs ts (at frames (InMarks h before colors) n) → ReadArg fs ts frames
 unfolding run
 zero_arg fs [] le h before colors frames n g = never g
 zero_arg fs (t ∷ ts) le h before colors frames n g = absurd (omega arith)
 
-zero_more : (fs : List (List ℕ)) (ts : List Token) → Ends ts → length ts ≤ 0 → (h : Head) (before : List Arg) (colors : ℕ) (frames : List Frame) (x : Expr) (n : ℕ) → Accepts fs ts (at (InArgs h before colors ∷ frames) (After x) n) → ReadMore fs ts frames
+zero_more : (fs : List (List ℕ)) (ts : List Token) → Ends ts → length ts ≤ 0 → (h : Head) (before : List Arg) (colors : Sides) (frames : List Frame) (x : Expr) (n : ℕ) → Accepts fs ts (at (InArgs h before colors ∷ frames) (After x) n) → ReadMore fs ts frames
 unfolding run
 zero_more fs [] e le h before colors frames x n g = never g
 zero_more fs (t ∷ ts) e le h before colors frames x n g = absurd (omega arith)

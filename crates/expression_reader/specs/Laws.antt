@@ -50,10 +50,10 @@ IsSlotted s t = s.slot + owed s.mode ≤ t.nodes
 abbrev pub SlotsKeepUp : Type 0
 SlotsKeepUp = (features : List (List ℕ)) (s n : State) (token : Token) (t : Tally) → step features s token ≡ Some n → IsSlotted s t → IsSlotted n (tallied t (emitted s token))
 
--- What is known behind the tokens of a body: what a project keeps of the body, and that its nodes were counted, before these
--- roles and tokens.
+-- What is known behind the tokens of a body: what a project keeps of the body, over these features and in the format that was met, and
+-- that its nodes were counted, before these roles and tokens.
 pub record IsKept (features : List (List ℕ)) (t : Tally) (x : ExprTree) (rest : List Role) (more : List Token) : Type 0 where
-  pub is : is_body (length features) (value_expr features 0 x).0 ≡ true
+  pub is : is_body (record { features = length features; format = t.format }) (value_expr features 0 x).0 ≡ true
   pub marks : List (List ℕ)
   pub small : t.size + node_count (value_expr features 0 x).0 ≤ most_size
   pub within : AreWithin (record t { marks = marks; nodes = node_count (value_expr features 0 x).0; size = t.size + node_count (value_expr features 0 x).0 }) rest

@@ -91,9 +91,7 @@ impl ExpressionReader {
                 done,
                 colors,
                 off,
-            } => {
-                Ok(self.after_at(features, head, done, colors, off, symbol))
-            }
+            } => { Ok(self.after_at(features, head, done, colors, off, symbol)) }
             Mode::Paren => self.paren(alloc, symbol),
             Mode::ParenName(name) => self.paren_name(alloc, name, symbol),
             Mode::ParenClosed(name) => self.paren_closed(alloc, name, symbol),

@@ -75,7 +75,13 @@ impl<'a> Machine<'a> {
     pub fn new(alloc: Global) -> Machine<'a>
         ensures { machine_seen result ≡ spec.start }
     {
-        Machine::beginning(alloc, Mode::Begin, Format::One, Features::new(alloc), NO_NAME)
+        Machine::beginning(
+            alloc,
+            Mode::Begin,
+            Format::One,
+            Features::new(alloc),
+            NO_NAME,
+        )
     }
 
     /// In this mode and this format, behind these features and within the class of this name; no memory is taken.

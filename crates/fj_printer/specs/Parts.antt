@@ -8,7 +8,13 @@ use Rattle.cfj_model.specs.declared.expr.Expr.{Expr}
 use Rattle.cfj_model.specs.declared.expr.Expr.TheFolds.{fold-Expr}
 use Rattle.cfj_logic.specs.declared.formula.Formula.{Formula}
 use Rattle.cfj_logic.specs.declared.formula.Formula.TheFolds.{fold-Formula}
+use Rattle.cfj_model.specs.ProductLines.{ProductLine}
+use Rattle.cfj_model.specs.declared.feature_model.Format.{Format}
 use Rattle.cfj_model.specs.Print.{line_end, marks_text, Shown, shown_step, shown_arg, expr_text, ShownFormula, shown_formula_step}
+
+-- a product line as one of this format
+abbrev pub in_format : Format → ProductLine → ProductLine
+in_format format line = record line { model = record line.model { format = format } }
 
 -- `class C extends D {`
 abbrev pub class_head_text : List (List ℕ) → Class → List ℕ

@@ -22,4 +22,4 @@ mod pieces;
 mod project;
 mod showing;
 
-pub use project::{print_class, print_plain, print_project, print_variant};
+pub use project::{print_class, print_migrated, print_plain, print_project, print_variant};

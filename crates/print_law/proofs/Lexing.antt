@@ -1,6 +1,6 @@
 -- Printed pieces, one behind another, give their tokens. A piece that ends in a word wants a text behind it that doesn't go on
 -- that word.
-use Rattle.std.proofs.Common.{◌≡◌, ◌≢◌, ℕ, ◌<◌, ◌==◌, Bool, true, false, not, ◌&&◌, ◌||◌, nat_lt, codes, List, [], ◌∷◌, ◌++◌, refl, sym, ap, subst, ◌∙◌, append_assoc, lit<, encode_utf8_all, true≢false}
+use Rattle.std.proofs.Common.{◌≡◌, ℕ, ◌<◌, ◌==◌, Bool, true, false, not, ◌&&◌, ◌||◌, nat_lt, codes, List, [], ◌∷◌, ◌++◌, refl, sym, ap, subst, ◌∙◌, append_assoc, lit<, encode_utf8_all, true≢false}
 use Rattle.std.specs.List.{list_all}
 use Rattle.std.specs.Str.{chars, is_utf8, IsUtf8}
 use Rattle.std.specs.Char.{is_ascii_alphabetic, is_ascii_alphanumeric}

@@ -60,6 +60,7 @@ fn words_told(alloc: Global, text: &str) -> Result<Answer, AllocError> {
     };
     let line = match read_words(alloc, words.as_slice()) {
         Ok(Asked::Check { project, budget }) => format!(in alloc; "check `{project}` {budget}")?,
+        Ok(Asked::Migrate { project }) => format!(in alloc; "check `{project}` --migrate")?,
         Ok(Asked::Export { project, names }) => format!(in alloc; "export `{project}` `{names}`")?,
         Err(_) => return Answer::refusal(alloc, "no command"),
     };

@@ -1,6 +1,6 @@
 -- What the words of a run ask: the command line as `clap` reads a simple command.
-use Rattle.std.specs.Prelude.{ℕ, Bool, true, false, ◌&&◌, nat_le, if◌then◌else◌, List, [], ◌∷◌, length, codes}
-use Rattle.std.specs.Prelude.{Option, Some, None, is_some, option_map, option_and_then}
+use Rattle.std.specs.Prelude.{ℕ, Bool, true, false, ◌&&◌, nat_le, if◌then◌else◌, List, [], ◌∷◌, length}
+use Rattle.std.specs.Prelude.{codes, Option, Some, None, is_some, option_map, option_and_then}
 use Rattle.std.specs.Option.{option_map_or}
 use Rattle.std.specs.List.{list_all}
 use Rattle.std.specs.Str.{bytes_eq}
@@ -58,12 +58,14 @@ is_given flag rows = option_map_or (λ value. bytes_eq value (codes "true")) (fi
 
 -- What the matches of `check` ask without `--migrate`, where its number is in its range.
 abbrev pub judgement_of : List Row → Option Asked
-judgement_of rows = option_and_then (λ project. option_map (check project) (budget_of (first_of (codes "budget") rows)))
+judgement_of rows = option_and_then
+    (λ project. option_map (check project) (budget_of (first_of (codes "budget") rows)))
     (first_of (codes "project") rows)
 
 -- What they ask with `--migrate`: nothing is judged, so a budget has no place beside it.
 abbrev pub migration_of : List Row → Option Asked
-migration_of rows = if is_some (first_of (codes "budget") rows) then None else option_map migrate (first_of (codes "project") rows)
+migration_of rows = if is_some (first_of (codes "budget") rows) then None
+    else option_map migrate (first_of (codes "project") rows)
 
 -- What the matches of `check` ask.
 abbrev pub check_of : List Row → Option Asked

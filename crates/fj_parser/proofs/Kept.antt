@@ -92,7 +92,7 @@ class_fits t w e = go (none_holds ((bytes_eq w object, Reserved) ∷ ((is_long w
     go (a, (b, (c, (d, (f, end))))) = record { length_fits = b; no_object = a; new = c; few = leb-false _ _ d; small = leb-false _ _ f }
 
 -- what is known behind a class
-record ClassKept (n : ℕ) (t : Tally) (k : Class) (rest : List Role) (more : List Token) : Type 0 where
+record ClassKept (p : Palette) (t : Tally) (k : Class) (rest : List Role) (more : List Token) : Type 0 where
   marks : List (List ℕ)
   fields : ℕ
   methods : ℕ
@@ -110,7 +110,7 @@ record ClassKept (n : ℕ) (t : Tally) (k : Class) (rest : List Role) (more : Li
 
 class_is : (features : List (List ℕ)) (k : ClassTree) → is_short_identifier k.name ≡ true → bytes_eq k.name object ≡ false → is_short_identifier k.parent ≡ true → are_fields (length features) (numbered_fields (map (value_field features) k.fields)) ≡ true → is_ctor (length features) (value_ctor features k) ≡ true → are_methods (length features) (numbered_methods (map (value_method features) k.methods)) ≡ true → is_class (length features) (value_class features k) ≡ true
 unfolding is_class
-class_is features k a b c d e f = and_from _ _ (and_from _ _ (and_from _ _ (and_from _ _ (and_from _ _ (and_from _ _ a (not_from_false _ b)) (known features k.marks)) c) d) e) f
+class_is features k a b c d e f = and_from _ _ (and_from _ _ (and_from _ _ (and_from _ _ (and_from _ _ (and_from _ _ a (not_from_false _ b)) (colors_known t.format features k.marks m.allowed)) c) d) e) f
 
 -- fields are those of a class once they are numbered
 fields_are : (n : ℕ) (fs : List Field) → length fs ≤ most_fields → list_all (is_field n) fs ≡ true → are_fields n (numbered_fields fs) ≡ true
@@ -144,7 +144,7 @@ roles_behind_name k rest = other_token ∷ (used_name k.parent ∷ (other_token 
 
 class_kept : (features : List (List ℕ)) (t : Tally) (k : ClassTree) → (rest : List Role) (more : List Token) → AreWithin t (roles_class k rest) → are_read (spell_class k more) ≡ true → ClassKept (length features) t (value_class features k) rest more
 class_kept features t k rest more w r =
-    let m : MarksKept t (other_token ∷ (class_name k.name ∷ roles_behind_name k rest)) (ClassWord ∷ (Id k.name ∷ tokens_behind_name k more)) = marks_kept t k.marks (other_token ∷ (class_name k.name ∷ roles_behind_name k rest)) (ClassWord ∷ (Id k.name ∷ tokens_behind_name k more)) w r in
+    let m : MarksKept t k.marks (other_token ∷ (class_name k.name ∷ roles_behind_name k rest)) (ClassWord ∷ (Id k.name ∷ tokens_behind_name k more)) = marks_kept t k.marks (other_token ∷ (class_name k.name ∷ roles_behind_name k rest)) (ClassWord ∷ (Id k.name ∷ tokens_behind_name k more)) w r in
     let fits : ClassFits t k.name = class_fits t k.name m.within.1.0 in
     let after : List Token = in_order spell_field k.fields (spell_ctor k (tokens_behind_ctor k more)) in
     let i : (is_identifier k.name ≡ true) × ((is_identifier k.parent && are_read after) ≡ true) = and_parts (is_identifier k.name) (is_identifier k.parent && are_read after) m.read in
@@ -179,7 +179,7 @@ class_kept features t k rest more w r =
     }
 
 -- what is known of all classes
-record ClassesKept (n : ℕ) (t : Tally) (classes : List Class) : Type 0 where
+record ClassesKept (p : Palette) (t : Tally) (classes : List Class) : Type 0 where
   few : length t.classes + length classes ≤ most_classes
   new : are_new t.classes (map (λ k. k.name) classes) ≡ true
   each : list_all (is_class n) classes ≡ true
@@ -202,7 +202,7 @@ classes_kept features t (k ∷ ks) few small w r =
 -- ---- constraints
 
 -- what is known behind the constraints, over so many features
-record ConstraintsKept (n : ℕ) (t : Tally) (constraints : List Formula) (rest : List Role) (more : List Token) : Type 0 where
+record ConstraintsKept (p : Palette) (t : Tally) (constraints : List Formula) (rest : List Role) (more : List Token) : Type 0 where
   marks : List (List ℕ)
   few : t.formula_nodes + sum_by formula_node_count constraints ≤ most_formula_nodes
   each : list_all (is_constraint n) constraints ≡ true

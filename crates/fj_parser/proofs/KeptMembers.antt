@@ -29,7 +29,7 @@ use Rattle.fj_parser.proofs.KeptNames.{short, NameFits, CountFits, name_fits, co
 -- ---- fields
 
 -- what is known behind the fields of a class, of so many features
-pub record FieldsKept (n : ℕ) (t : Tally) (fields : List Field) (rest : List Role) (more : List Token) : Type 0 where
+pub record FieldsKept (p : Palette) (t : Tally) (fields : List Field) (rest : List Role) (more : List Token) : Type 0 where
   pub marks : List (List ℕ)
   pub count : ℕ
   pub few : t.fields + length fields ≤ most_fields
@@ -42,7 +42,7 @@ pub fields_kept : (features : List (List ℕ)) (t : Tally) (ds : List Declared) 
 fields_kept features t [] rest more few small w r = record { marks = t.marks; count = t.fields; few = omega arith; each = refl; small = omega arith; within = subst (λ n. AreWithin (record t { size = n }) rest) (omega arith) w; read = r }
 fields_kept features t (d ∷ ds) rest more few small w r =
     let after : List Token = in_order spell_field ds more in
-    let m : MarksKept t (used_name d.of ∷ (field_name d.name ∷ (other_token ∷ in_order roles_field ds rest))) (Id d.of ∷ (Id d.name ∷ (Semicolon ∷ after))) = marks_kept t d.marks (used_name d.of ∷ (field_name d.name ∷ (other_token ∷ in_order roles_field ds rest))) (Id d.of ∷ (Id d.name ∷ (Semicolon ∷ after))) w r in
+    let m : MarksKept t d.marks (used_name d.of ∷ (field_name d.name ∷ (other_token ∷ in_order roles_field ds rest))) (Id d.of ∷ (Id d.name ∷ (Semicolon ∷ after))) = marks_kept t d.marks (used_name d.of ∷ (field_name d.name ∷ (other_token ∷ in_order roles_field ds rest))) (Id d.of ∷ (Id d.name ∷ (Semicolon ∷ after))) w r in
     let fits : CountFits d.name t.fields most_fields t.size = count_fits d.name t.fields most_fields t.size (Limit limit.Name) (Limit limit.Fields) (Limit limit.Size) m.within.1.0 in
     let i : (is_identifier d.of ≡ true) × ((is_identifier d.name && are_read after) ≡ true) = and_parts (is_identifier d.of) (is_identifier d.name && are_read after) m.read in
     let j : (is_identifier d.name ≡ true) × (are_read after ≡ true) = and_parts (is_identifier d.name) (are_read after) i.1 in
@@ -52,7 +52,7 @@ fields_kept features t (d ∷ ds) rest more few small w r =
       marks = k.marks;
       count = k.count;
       few = omega (arith, k.few);
-      each = and_from _ _ (and_from _ _ (and_from _ _ (known features d.marks) (used_short d.of t i.0 m.within.0)) (short d.name j.0 fits.length_fits)) k.each;
+      each = and_from _ _ (and_from _ _ (and_from _ _ (colors_known t.format features d.marks m.allowed) (used_short d.of t i.0 m.within.0)) (short d.name j.0 fits.length_fits)) k.each;
       small = omega (arith, k.small);
       within = subst (λ n. AreWithin (record t { marks = k.marks; fields = k.count; size = n }) rest) (omega arith) k.within;
       read = k.read;
@@ -129,7 +129,7 @@ params_kept by features t slot [] rest more few small w r =
 params_kept {named = named} {most = most} by features t slot (d ∷ ds) rest more few small (comma, w) r =
     let after : List Token = each_behind Comma spell_param ds more in
     let others : List Role = each_behind other_token (roles_declared named) ds rest in
-    let m : MarksKept t (used_name d.of ∷ (named d.name ∷ others)) (Id d.of ∷ (Id d.name ∷ after)) = marks_kept t d.marks (used_name d.of ∷ (named d.name ∷ others)) (Id d.of ∷ (Id d.name ∷ after)) w r in
+    let m : MarksKept t d.marks (used_name d.of ∷ (named d.name ∷ others)) (Id d.of ∷ (Id d.name ∷ after)) = marks_kept t d.marks (used_name d.of ∷ (named d.name ∷ others)) (Id d.of ∷ (Id d.name ∷ after)) w r in
     let fits : CountFits d.name (by.number t.params t.param_names) most t.size = by.fits (record t { marks = [] }) d.name m.within.1.0 in
     let i : (is_identifier d.of ≡ true) × ((is_identifier d.name && are_read after) ≡ true) = and_parts (is_identifier d.of) (is_identifier d.name && are_read after) m.read in
     let j : (is_identifier d.name ≡ true) × (are_read after ≡ true) = and_parts (is_identifier d.name) (are_read after) i.1 in
@@ -144,7 +144,7 @@ params_kept {named = named} {most = most} by features t slot (d ∷ ds) rest mor
       stand = by.first_stands (record t { marks = [] }) d.name (map (λ p. p.name) (numbered (value_param features) (slot + 1) ds)) m.within.1.0 k.stand;
       rises = and_from _ _ (le-leb slot slot (omega arith)) k.rises;
       few = omega (arith, one, k.few);
-      each = and_from _ _ (and_from _ _ (and_from _ _ (known features d.marks) (used_short d.of t i.0 m.within.0)) (short d.name j.0 fits.length_fits)) k.each;
+      each = and_from _ _ (and_from _ _ (and_from _ _ (colors_known t.format features d.marks m.allowed) (used_short d.of t i.0 m.within.0)) (short d.name j.0 fits.length_fits)) k.each;
       small = omega (arith, k.small);
       within = subst (λ n. AreWithin (record t { marks = k.marks; params = k.count; param_names = k.names; size = n }) rest) (omega arith) k.within;
       read = k.read;
@@ -157,7 +157,7 @@ are_kept {most = most} {params = params} p = and_from _ _ (and_from _ _ (le-leb 
 -- ---- constructors
 
 -- what is known behind the names that a constructor sends, from a slot on
-record SendsKept (n : ℕ) (t : Tally) (slot : ℕ) (sends : List Sent) (rest : List Role) (more : List Token) : Type 0 where
+record SendsKept (p : Palette) (t : Tally) (slot : ℕ) (sends : List Sent) (rest : List Role) (more : List Token) : Type 0 where
   marks : List (List ℕ)
   count : ℕ
   rises : rise_from slot (map (λ s. s.slot) sends) ≡ true
@@ -171,7 +171,7 @@ sends_kept : (features : List (List ℕ)) (t : Tally) (slot : ℕ) (ss : List Na
 sends_kept features t slot [] rest more few small w r = record { marks = t.marks; count = t.sends; rises = refl; few = omega arith; each = refl; small = omega arith; within = subst (λ n. AreWithin (record t { size = n }) rest) (omega arith) w; read = r }
 sends_kept features t slot (d ∷ ds) rest more few small (comma, w) r =
     let after : List Token = each_behind Comma spell_sent ds more in
-    let m : MarksKept t (sent_name d.name ∷ each_behind other_token roles_sent ds rest) (Id d.name ∷ after) = marks_kept t d.marks (sent_name d.name ∷ each_behind other_token roles_sent ds rest) (Id d.name ∷ after) w r in
+    let m : MarksKept t d.marks (sent_name d.name ∷ each_behind other_token roles_sent ds rest) (Id d.name ∷ after) = marks_kept t d.marks (sent_name d.name ∷ each_behind other_token roles_sent ds rest) (Id d.name ∷ after) w r in
     let fits : CountFits d.name t.sends most_in_ctor t.size = count_fits d.name t.sends most_in_ctor t.size (Limit limit.Name) (Limit limit.Ctor) (Limit limit.Size) m.within.0 in
     let i : (is_identifier d.name ≡ true) × (are_read after ≡ true) = and_parts (is_identifier d.name) (are_read after) m.read in
     let u : Tally = record t { marks = []; sends = t.sends + 1; size = t.size + 1 } in
@@ -181,14 +181,14 @@ sends_kept features t slot (d ∷ ds) rest more few small (comma, w) r =
       count = k.count;
       rises = and_from _ _ (le-leb slot slot (omega arith)) k.rises;
       few = omega (arith, k.few);
-      each = and_from _ _ (and_from _ _ (known features d.marks) (short d.name i.0 fits.length_fits)) k.each;
+      each = and_from _ _ (and_from _ _ (colors_known t.format features d.marks m.allowed) (short d.name i.0 fits.length_fits)) k.each;
       small = omega (arith, k.small);
       within = subst (λ n. AreWithin (record t { marks = k.marks; sends = k.count; size = n }) rest) (omega arith) k.within;
       read = k.read;
     }
 
 -- what is known behind the assignments of a constructor, from a slot on
-record AssignsKept (n : ℕ) (t : Tally) (slot : ℕ) (assigns : List Sent) (rest : List Role) (more : List Token) : Type 0 where
+record AssignsKept (p : Palette) (t : Tally) (slot : ℕ) (assigns : List Sent) (rest : List Role) (more : List Token) : Type 0 where
   marks : List (List ℕ)
   count : ℕ
   rises : rise_from slot (map (λ s. s.slot) assigns) ≡ true
@@ -202,7 +202,7 @@ assigns_kept : (features : List (List ℕ)) (t : Tally) (slot : ℕ) (ss : List 
 assigns_kept features t slot [] rest more few small w r = record { marks = t.marks; count = t.assigns; rises = refl; few = omega arith; each = refl; small = omega arith; within = subst (λ n. AreWithin (record t { size = n }) rest) (omega arith) w; read = r }
 assigns_kept features t slot (d ∷ ds) rest more few small w r =
     let after : List Token = in_order spell_assign ds more in
-    let m : MarksKept t (other_token ∷ (other_token ∷ (assigned_name d.name ∷ (other_token ∷ (used_name d.name ∷ (other_token ∷ in_order roles_assign ds rest)))))) (ThisWord ∷ (Dot ∷ (Id d.name ∷ (Equals ∷ (Id d.name ∷ (Semicolon ∷ after)))))) = marks_kept t d.marks (other_token ∷ (other_token ∷ (assigned_name d.name ∷ (other_token ∷ (used_name d.name ∷ (other_token ∷ in_order roles_assign ds rest)))))) (ThisWord ∷ (Dot ∷ (Id d.name ∷ (Equals ∷ (Id d.name ∷ (Semicolon ∷ after)))))) w r in
+    let m : MarksKept t d.marks (other_token ∷ (other_token ∷ (assigned_name d.name ∷ (other_token ∷ (used_name d.name ∷ (other_token ∷ in_order roles_assign ds rest)))))) (ThisWord ∷ (Dot ∷ (Id d.name ∷ (Equals ∷ (Id d.name ∷ (Semicolon ∷ after)))))) = marks_kept t d.marks (other_token ∷ (other_token ∷ (assigned_name d.name ∷ (other_token ∷ (used_name d.name ∷ (other_token ∷ in_order roles_assign ds rest)))))) (ThisWord ∷ (Dot ∷ (Id d.name ∷ (Equals ∷ (Id d.name ∷ (Semicolon ∷ after)))))) w r in
     let fits : CountFits d.name t.assigns most_in_ctor t.size = count_fits d.name t.assigns most_in_ctor t.size (Limit limit.Name) (Limit limit.Ctor) (Limit limit.Size) m.within.1.1.0 in
     let i : (is_identifier d.name ≡ true) × ((is_identifier d.name && are_read after) ≡ true) = and_parts (is_identifier d.name) (is_identifier d.name && are_read after) m.read in
     let u : Tally = record t { marks = []; assigns = t.assigns + 1; size = t.size + 1 } in
@@ -212,7 +212,7 @@ assigns_kept features t slot (d ∷ ds) rest more few small w r =
       count = k.count;
       rises = and_from _ _ (le-leb slot slot (omega arith)) k.rises;
       few = omega (arith, k.few);
-      each = and_from _ _ (and_from _ _ (known features d.marks) (short d.name i.0 fits.length_fits)) k.each;
+      each = and_from _ _ (and_from _ _ (colors_known t.format features d.marks m.allowed) (short d.name i.0 fits.length_fits)) k.each;
       small = omega (arith, k.small);
       within = subst (λ n. AreWithin (record t { marks = k.marks; assigns = k.count; size = n }) rest) (omega arith) k.within;
       read = k.read;
@@ -240,7 +240,7 @@ abbrev pub ctor_size : Constructor → ℕ
 ctor_size c = length c.params + (length c.sends + length c.assigns)
 
 -- what is known behind a constructor
-pub record CtorKept (n : ℕ) (t : Tally) (fields size : ℕ) (c : Constructor) (rest : List Role) (more : List Token) : Type 0 where
+pub record CtorKept (p : Palette) (t : Tally) (fields size : ℕ) (c : Constructor) (rest : List Role) (more : List Token) : Type 0 where
   pub marks : List (List ℕ)
   pub params : ℕ
   pub param_names : List (List ℕ)
@@ -287,7 +287,7 @@ abbrev roles_behind_method_name : MethodTree → List Role → List Role
 roles_behind_method_name m rest = other_token ∷ separated other_token roles_method_param m.params (roles_behind_head m rest)
 
 -- what is known behind a method
-record MethodKept (n : ℕ) (t : Tally) (m : Method) (rest : List Role) (more : List Token) : Type 0 where
+record MethodKept (p : Palette) (t : Tally) (m : Method) (rest : List Role) (more : List Token) : Type 0 where
   marks : List (List ℕ)
   params : ℕ
   param_names : List (List ℕ)
@@ -300,12 +300,12 @@ record MethodKept (n : ℕ) (t : Tally) (m : Method) (rest : List Role) (more : 
 
 method_is : (features : List (List ℕ)) (m : MethodTree) → is_short_identifier m.result ≡ true → is_short_identifier m.name ≡ true → are_params most_params (length features) (numbered (value_param features) 0 m.params) ≡ true → are_distinct (map (λ p. p.name) (numbered (value_param features) 0 m.params)) ≡ true → is_body (length features) (value_expr features 0 m.body).0 ≡ true → is_method (length features) (value_method features m) ≡ true
 unfolding is_method
-method_is features m a b c d e = and_from _ _ (and_from _ _ (and_from _ _ (and_from _ _ (and_from _ _ (known features m.marks) a) b) c) d) e
+method_is features m a b c d e = and_from _ _ (and_from _ _ (and_from _ _ (and_from _ _ (and_from _ _ (colors_known t.format features m.marks m.allowed) a) b) c) d) e
 
 method_kept : (features : List (List ℕ)) (t : Tally) (m : MethodTree) (rest : List Role) (more : List Token) → AreWithin t (roles_method m rest) → are_read (spell_method m more) ≡ true → MethodKept (length features) t (value_method features m) rest more
 method_kept features t m rest more w r =
     let after : List Token = separated Comma spell_param m.params (tokens_behind_head m more) in
-    let a : MarksKept t (used_name m.result ∷ (method_name m.name ∷ roles_behind_method_name m rest)) (Id m.result ∷ (Id m.name ∷ tokens_behind_method_name m more)) = marks_kept t m.marks (used_name m.result ∷ (method_name m.name ∷ roles_behind_method_name m rest)) (Id m.result ∷ (Id m.name ∷ tokens_behind_method_name m more)) w r in
+    let a : MarksKept t m.marks (used_name m.result ∷ (method_name m.name ∷ roles_behind_method_name m rest)) (Id m.result ∷ (Id m.name ∷ tokens_behind_method_name m more)) = marks_kept t m.marks (used_name m.result ∷ (method_name m.name ∷ roles_behind_method_name m rest)) (Id m.result ∷ (Id m.name ∷ tokens_behind_method_name m more)) w r in
     let fits : CountFits m.name t.methods most_methods t.size = count_fits m.name t.methods most_methods t.size (Limit limit.Name) (Limit limit.Methods) (Limit limit.Size) a.within.1.0 in
     let i : (is_identifier m.result ≡ true) × ((is_identifier m.name && are_read after) ≡ true) = and_parts (is_identifier m.result) (is_identifier m.name && are_read after) a.read in
     let j : (is_identifier m.name ≡ true) × (are_read after ≡ true) = and_parts (is_identifier m.name) (are_read after) i.1 in
@@ -328,7 +328,7 @@ method_kept features t m rest more w r =
     }
 
 -- what is known behind the methods of a class
-pub record MethodsKept (n : ℕ) (t : Tally) (methods : List Method) (rest : List Role) (more : List Token) : Type 0 where
+pub record MethodsKept (p : Palette) (t : Tally) (methods : List Method) (rest : List Role) (more : List Token) : Type 0 where
   pub marks : List (List ℕ)
   pub count : ℕ
   pub params : ℕ

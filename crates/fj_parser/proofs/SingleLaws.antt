@@ -2,6 +2,7 @@
 use Rattle.std.proofs.Common.{◌≡◌, ℕ, suc, ◌+◌, true, false, List, [], ◌∷◌, ◌++◌, length, Option, Some, None, refl, sym, ◌∙◌, ap, arith, append_assoc}
 use Rattle.std.proofs.lemmas.List.{append-nil}
 use Rattle.std.proofs.lemmas.Option.{none-some, same_Some}
+use Rattle.cfj_model.specs.declared.feature_model.Format.{Format}
 use Rattle.cfj_model.specs.Languages.{Language}
 use Rattle.cfj_model.specs.Roles.{Role, other_token, are_settled}
 use Rattle.cfj_words.specs.Tokens.{Token, Id, End}
@@ -21,14 +22,14 @@ use Rattle.fj_parser.proofs.Readers.{on_from, run_append}
 use Rattle.fj_parser.proofs.Standing.{Stands, stands_run, settled_append, waiting_settled}
 use Rattle.fj_parser.proofs.SingleParts.{Overlap, within, beyond, overlap, waiting_first, AsideAtEnd, IsSameInExpression, part_settles, Strays, along, off, Goes, strays}
 
-module _ (g : Goal) (fs : List (List ℕ)) (class : List ℕ) where
+module _ (g : Goal) (format : Format) (fs : List (List ℕ)) (class : List ℕ) where
   -- the part's run
   abbrev part_run : List Token → State → Run State
-  part_run = run_of (reader_for g fs class)
+  part_run = run_of (reader_for g format fs class)
 
   -- before the first token
   abbrev pub first_state : State
-  first_state = start_for g fs class
+  first_state = start_for g format fs class
 
   module _ {V : Type 0} (l : Language V) where
     -- What is read was read by the machine for projects too, or it is a whole text, perhaps with its end.
@@ -74,7 +75,7 @@ module _ (g : Goal) (fs : List (List ℕ)) (class : List ℕ) where
       pub begins : Stands first_state []
       pub kept : Kept first_state.mode first_state
       pub read : (x : l.Tree) (ts : List Token) → part_run (l.spell x ts) first_state ≡ complete.with_roles (l.roles x) (part_run ts (done x))
-      pub in_expression : IsSameInExpression g fs class
+      pub in_expression : IsSameInExpression g format fs class
       pub only_end : (x : l.Tree) (n : State) (t : Token) → step_for g (done x).mode (done x) t ≡ Some n → t ≡ End
       pub ends : (x : l.Tree) → step_for g (done x).mode (done x) End ≡ Some (record (done x) { mode = AtEnd })
       pub gives : (x : l.Tree) → emitted (done x) End ≡ other_token ∷ []
@@ -85,7 +86,7 @@ module _ (g : Goal) (fs : List (List ℕ)) (class : List ℕ) where
       pub position : (front more : List Token) (s : State) (rs : List Role) → part_run front first_state ≡ (Some s, rs) → run front first_state ≡ (Some s, rs) → Accepts (front ++ more) first_state → Position done front more s rs
       pub ending : (s n : State) → step_for g s.mode s End ≡ Some n → EndsBy s
       pub once : (s n : State) (t : Token) (rs : List Role) → Stands s rs → step_for g s.mode s t ≡ Some n → length (emitted s t) + length (pending n) ≡ suc (length (pending s))
-      pub named : (s : State) → Kept s.mode s → takes_name_for g s.mode s ≡ true → GoesByName (reader_for g fs class) s
+      pub named : (s : State) → Kept s.mode s → takes_name_for g s.mode s ≡ true → GoesByName (reader_for g format fs class) s
       pub unnamed : (s : State) (w : List ℕ) → takes_name_for g s.mode s ≡ false → step_for g s.mode s (Id w) ≡ None
 
     module _ (part : IsPart) where
@@ -122,7 +123,7 @@ module _ (g : Goal) (fs : List (List ℕ)) (class : List ℕ) where
       -- where a text goes on, the machine does
       goes_on : (front z : List Token) (s : State) (rs : List Role) (x : l.Tree) → part_run front first_state ≡ (Some s, rs) → l.spell x [] ≡ front ++ z → (part_run z s).0 ≡ Some (part.done x)
       goes_on front z s rs x h text =
-          ap (λ (p : Run State). p.0) (ap (on_from (reader_for g fs class) z) (sym h) ∙ sym (run_append (reader_for g fs class) front z first_state) ∙ ap (λ w. part_run w first_state) (sym text) ∙ behind_run x)
+          ap (λ (p : Run State). p.0) (ap (on_from (reader_for g format fs class) z) (sym h) ∙ sym (run_append (reader_for g format fs class) front z first_state) ∙ ap (λ w. part_run w first_state) (sym text) ∙ behind_run x)
 
       stuck : (t : Token) (z : List Token) (s d : State) → step_for g s.mode s t ≡ None → (part_run (t ∷ z) s).0 ≡ Some d → ⊥
       unfolding run_of
@@ -209,10 +210,10 @@ module _ (g : Goal) (fs : List (List ℕ)) (class : List ℕ) where
               let none : vs ≡ [] = last vs (ap (λ y. (part_run vs y).0) (sym next) ∙ k) in
               ended x (text ∙ ap (λ u. l.spell x (u ∷ vs)) end ∙ ap (λ w. l.spell x (End ∷ w)) none)
 
-      pub path_to_end : ((s n : State) (t : Token) → step_for g s.mode s t ≡ Some n → Goes g fs class AsideAtEnd s t n) → (front : List Token) (s : State) (rs : List Role) → part_run front first_state ≡ (Some s, rs) → Path front s rs
-      path_to_end goes front s rs h = by (strays g fs class AsideAtEnd goes front first_state s rs h)
+      pub path_to_end : ((s n : State) (t : Token) → step_for g s.mode s t ≡ Some n → Goes g format fs class AsideAtEnd s t n) → (front : List Token) (s : State) (rs : List Role) → part_run front first_state ≡ (Some s, rs) → Path front s rs
+      path_to_end goes front s rs h = by (strays g format fs class AsideAtEnd goes front first_state s rs h)
         where
-          by : Strays g fs class AsideAtEnd front first_state s rs → Path front s rs
+          by : Strays g format fs class AsideAtEnd front first_state s rs → Path front s rs
           by (along ran) = inside ran
           by (off us t vs x n qs is ran own a next rest) = ended_path front us vs s x n qs rs (is ∙ ap (λ u. us ++ u ∷ vs) a.0) own ran (ap (step_for g x.mode x) (sym a.0) ∙ next) a.1 rest
 
@@ -287,19 +288,19 @@ module _ (g : Goal) (fs : List (List ℕ)) (class : List ℕ) where
               let at = is_ended part front s rs x h is in
               ap are_settled (ap (λ y. rs ++ pending y) at.0 ∙ append-nil rs ∙ at.1 ∙ part.grammar.gives x [] (other_token ∷ [])) ∙ settled_append (l.roles x []) (other_token ∷ []) (part.grammar.settled x) refl
 
-      named : (front : List Token) (s : State) (rs : List Role) → part_run front first_state ≡ (Some s, rs) → are_read front ≡ true → takes_name_for g s.mode s ≡ true → GoesByName (reader_for g fs class) s
+      named : (front : List Token) (s : State) (rs : List Role) → part_run front first_state ≡ (Some s, rs) → are_read front ≡ true → takes_name_for g s.mode s ≡ true → GoesByName (reader_for g format fs class) s
       named front s rs h read name = by (path front s rs h)
         where
-          no_name : (n : State) → s ≡ n → takes_name_for g n.mode n ≡ false → GoesByName (reader_for g fs class) s
+          no_name : (n : State) → s ≡ n → takes_name_for g n.mode n ≡ false → GoesByName (reader_for g format fs class) s
           no_name n is free = never (sym free ∙ ap (λ y. takes_name_for g y.mode y) (sym is) ∙ name)
 
-          by : Path front s rs → GoesByName (reader_for g fs class) s
+          by : Path front s rs → GoesByName (reader_for g format fs class) s
           by (inside ran) = part.named s (kept_run front first_state s part.kept read (ap (λ (p : Run State). p.0) ran)) name
           by (behind x is) = no_name (part.done x) (is_behind part front s rs x h is).0 (part.takes x)
           by (ended x is) = no_name (at_end part x) (is_ended part front s rs x h is).0 (part.free (at_end part x))
 
       -- the machine of the part reads its texts
-      pub part_laws : pending first_state ≡ [] → Reads l (reader_for g fs class)
+      pub part_laws : pending first_state ≡ [] → Reads l (reader_for g format fs class)
       part_laws none =
           record {
             grammar = part.grammar;
@@ -312,7 +313,7 @@ module _ (g : Goal) (fs : List (List ℕ)) (class : List ℕ) where
             first = none;
             last = λ x. refl;
             each = each;
-            settles = λ ts s x rs h. part_settles g fs class part.in_expression ts s (at_end part x) rs refl h;
+            settles = λ ts s x rs h. part_settles g format fs class part.in_expression ts s (at_end part x) rs refl h;
             settled = settled;
             named = named;
             unnamed = part.unnamed;

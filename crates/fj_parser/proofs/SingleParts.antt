@@ -2,6 +2,7 @@
 use Rattle.std.proofs.Common.{◌≡◌, ℕ, suc, ◌+◌, ◌≤◌, Bool, true, false, List, [], ◌∷◌, ◌++◌, length, Option, Some, None, refl, sym, ◌∙◌, ap, subst, arith, append_assoc, length-append}
 use Rattle.std.proofs.lemmas.List.{append-nil}
 use Rattle.std.proofs.lemmas.Option.{none-some, same_Some}
+use Rattle.cfj_model.specs.declared.feature_model.Format.{Format}
 use Rattle.cfj_model.specs.declared.expr.Expr.{Expr}
 use Rattle.cfj_model.specs.Roles.{Role}
 use Rattle.cfj_words.specs.Tokens.{Token, End}
@@ -126,23 +127,23 @@ once_aside s n t e f =
     let behind : length (pending n) ≡ 0 = ap length (declaring_waits n.mode n f) in
     omega arith
 
-module _ (g : Goal) (fs : List (List ℕ)) (class : List ℕ) where
+module _ (g : Goal) (format : Format) (fs : List (List ℕ)) (class : List ℕ) where
   -- the part's run
   abbrev pub part_run : List Token → State → Run State
-  part_run = run_of (reader_for g fs class)
+  part_run = run_of (reader_for g format fs class)
 
   abbrev pub IsSameInside : Type 0
   IsSameInside = (m : Mode) (s : State) (t : Token) → is_inside m ≡ true → step_for g m s t ≡ step_in m s t
 
   -- over such tokens the part's run is that of the machine for projects
-  pub stays_run : IsSameInside → (ts more : List Token) (s : State) → Stays ts s → part_run (ts ++ more) s ≡ on_from (reader_for g fs class) more (run ts s)
+  pub stays_run : IsSameInside → (ts more : List Token) (s : State) → Stays ts s → part_run (ts ++ more) s ≡ on_from (reader_for g format fs class) more (run ts s)
   unfolding run_of
   stays_run same [] more s k = refl
   stays_run same (t ∷ ts) more s k = ap (then_run (part_run (ts ++ more)) (emitted s t)) (same s.mode s t k.0) ∙ go (λ n j. stays_run same ts more n j) (step s t) k.1
     where
-      go : ((n : State) → Stays ts n → part_run (ts ++ more) n ≡ on_from (reader_for g fs class) more (run ts n)) → (o : Option State) → OfSome (Stays ts) o → then_run (part_run (ts ++ more)) (emitted s t) o ≡ on_from (reader_for g fs class) more (then_run (run ts) (emitted s t) o)
+      go : ((n : State) → Stays ts n → part_run (ts ++ more) n ≡ on_from (reader_for g format fs class) more (run ts n)) → (o : Option State) → OfSome (Stays ts) o → then_run (part_run (ts ++ more)) (emitted s t) o ≡ on_from (reader_for g format fs class) more (then_run (run ts) (emitted s t) o)
       go ih None j = refl
-      go ih (Some n) j = ap (with_roles (emitted s t)) (ih n j) ∙ roles_on (reader_for g fs class) (emitted s t) more (run ts n)
+      go ih (Some n) j = ap (with_roles (emitted s t)) (ih n j) ∙ roles_on (reader_for g format fs class) (emitted s t) more (run ts n)
 
   -- ---- what waits is settled first
 

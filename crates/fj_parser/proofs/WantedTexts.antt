@@ -1,5 +1,6 @@
 -- What is answered of a member that is wanted is the only answer.
 use Rattle.std.proofs.Common.{◌≡◌, ℕ, List, Result, Err, IfOk}
+use Rattle.cfj_model.specs.declared.feature_model.Format.{Format}
 use Rattle.cfj_model.specs.declared.fault.FaultKind.{FaultKind}
 use Rattle.cfj_model.specs.declared.fault.ParseFault.{ParseFault}
 use Rattle.cfj_model.specs.declared.fault.ParseFault.TheVariants.{At}
@@ -22,15 +23,15 @@ use Rattle.fj_parser.proofs.MethodLaw.{method_laws}
 use Rattle.fj_parser.proofs.StandingFor.{laws_for}
 
 -- what is read is a text's value, and what is told its first fault
-abbrev pub IsAnswer : Want → List (List ℕ) → List ℕ → Result Member ParseFault → Type 0
-IsAnswer want features text r = IfOk r (λ m. IsTextOf (members_wanted want features) text m) × ((at : ℕ) (kind : FaultKind) → r ≡ Err (At at kind) → IsFirstFault (members_wanted want features) text at kind)
+abbrev pub IsAnswer : Want → Format → List (List ℕ) → List ℕ → Result Member ParseFault → Type 0
+IsAnswer want format features text r = IfOk r (λ m. IsTextOf (members_wanted want format features) text m) × ((at : ℕ) (kind : FaultKind) → r ≡ Err (At at kind) → IsFirstFault (members_wanted want format features) text at kind)
 
-pub only_wanted : (want : Want) (features : List (List ℕ)) (text : List ℕ) (r : Result Member ParseFault) → IsAnswer want features text r → (m : Member) → IsTextOf (members_wanted want features) text m → IsReadAs m r
-only_wanted Any features text r h = only_read (single_members features) (reader_for goal.Member features unnamed) (member_laws features) text r h.0 h.1
-only_wanted Field features text r h = only_read (standing_for member.Field (single_fields features)) (reader_for goal.Field features unnamed) (laws_for member.Field (single_fields features) (reader_for goal.Field features unnamed) (field_laws features)) text r h.0 h.1
-only_wanted Method features text r h = only_read (standing_for member.Method (single_methods features)) (reader_for goal.Method features unnamed) (laws_for member.Method (single_methods features) (reader_for goal.Method features unnamed) (method_laws features)) text r h.0 h.1
+pub only_wanted : (want : Want) (format : Format) (features : List (List ℕ)) (text : List ℕ) (r : Result Member ParseFault) → IsAnswer want format features text r → (m : Member) → IsTextOf (members_wanted want format features) text m → IsReadAs m r
+only_wanted Any format features text r h = only_read (single_members format features) (reader_for goal.Member format features unnamed) (member_laws format features) text r h.0 h.1
+only_wanted Field format features text r h = only_read (standing_for member.Field (single_fields format features)) (reader_for goal.Field format features unnamed) (laws_for member.Field (single_fields format features) (reader_for goal.Field format features unnamed) (field_laws format features)) text r h.0 h.1
+only_wanted Method format features text r h = only_read (standing_for member.Method (single_methods format features)) (reader_for goal.Method format features unnamed) (laws_for member.Method (single_methods format features) (reader_for goal.Method format features unnamed) (method_laws format features)) text r h.0 h.1
 
-pub first_wanted : (want : Want) (features : List (List ℕ)) (text : List ℕ) (r : Result Member ParseFault) → IsAnswer want features text r → (at : ℕ) (kind : FaultKind) → IsFirstFault (members_wanted want features) text at kind → IsRefusedAs at kind r
-first_wanted Any features text r h = only_told (single_members features) (reader_for goal.Member features unnamed) (member_laws features) text r h.0 h.1
-first_wanted Field features text r h = only_told (standing_for member.Field (single_fields features)) (reader_for goal.Field features unnamed) (laws_for member.Field (single_fields features) (reader_for goal.Field features unnamed) (field_laws features)) text r h.0 h.1
-first_wanted Method features text r h = only_told (standing_for member.Method (single_methods features)) (reader_for goal.Method features unnamed) (laws_for member.Method (single_methods features) (reader_for goal.Method features unnamed) (method_laws features)) text r h.0 h.1
+pub first_wanted : (want : Want) (format : Format) (features : List (List ℕ)) (text : List ℕ) (r : Result Member ParseFault) → IsAnswer want format features text r → (at : ℕ) (kind : FaultKind) → IsFirstFault (members_wanted want format features) text at kind → IsRefusedAs at kind r
+first_wanted Any format features text r h = only_told (single_members format features) (reader_for goal.Member format features unnamed) (member_laws format features) text r h.0 h.1
+first_wanted Field format features text r h = only_told (standing_for member.Field (single_fields format features)) (reader_for goal.Field format features unnamed) (laws_for member.Field (single_fields format features) (reader_for goal.Field format features unnamed) (field_laws format features)) text r h.0 h.1
+first_wanted Method format features text r h = only_told (standing_for member.Method (single_methods format features)) (reader_for goal.Method format features unnamed) (laws_for member.Method (single_methods format features) (reader_for goal.Method format features unnamed) (method_laws format features)) text r h.0 h.1

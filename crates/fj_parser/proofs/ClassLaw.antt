@@ -141,7 +141,7 @@ class_unnamed m s w e = name_stops m s w e
 
 -- the machine for a single class reads the texts of classes
 pub class_laws : (format : Format) (features : List (List ℕ)) → Reads (single_classes format features) (reader_for goal.Class format features unnamed)
-class_laws features =
+class_laws format features =
     record {
       grammar = class_grammar_is_plain format features;
       ended = class_ended format features;

@@ -1,5 +1,5 @@
 -- The machine for a single class: it goes as that for projects does, up to the end of the class.
-use Rattle.std.proofs.Common.{◌≡◌, ℕ, suc, ◌+◌, ◌*◌, ◌≤◌, List, [], ◌∷◌, length, Some, refl, sym, ◌∙◌, ap, subst, arith}
+use Rattle.std.proofs.Common.{◌≡◌, ℕ, suc, ◌+◌, ◌*◌, ◌≤◌, false, List, [], ◌∷◌, length, Some, refl, sym, ◌∙◌, ap, subst, arith}
 use Rattle.std.proofs.lemmas.Bool.{leb-true}
 use Rattle.std.proofs.lemmas.Option.{none-some, same_Some}
 use Rattle.cfj_model.specs.declared.class.Class.{Class}
@@ -21,7 +21,7 @@ use Rattle.fj_parser.proofs.Readers.{on_from, run_append}
 use Rattle.fj_parser.proofs.Spelled.{class_grammar_is_plain}
 
 abbrev pub class_reader : Format → List (List ℕ) → Reader
-class_reader features = reader_for goal.Class format features unnamed
+class_reader format features = reader_for goal.Class format features unnamed
 
 -- ---- what it takes, the machine for projects takes
 

@@ -61,7 +61,7 @@ no_second format features k (m ∷ ms) ts = refl
 
 no_text : (format : Format) (features : List (List ℕ)) → (run_of (class_reader format features) (End ∷ []) (behind format features [] [])).0 ≡ None
 unfolding run_of
-no_text features = refl
+no_text format features = refl
 
 -- nothing was read
 still_there : (format : Format) (features : List (List ℕ)) (s : State) → (run_of (class_reader format features) [] s).0 ≡ Some s

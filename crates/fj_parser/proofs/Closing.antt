@@ -1,8 +1,8 @@
 -- Each state can be completed: tokens that lead from it to the end of a text.
-use Rattle.std.proofs.Common.{◌≡◌, ℕ, Bool, true, false, if◌then◌else◌, List, [], ◌∷◌, ◌++◌, bit_or, Option, Some, None, refl, sym, ◌∙◌, ap, subst, append_assoc}
+use Rattle.std.proofs.Common.{◌≡◌, ℕ, Bool, true, false, if◌then◌else◌, List, [], ◌∷◌, ◌++◌, Option, Some, None, refl, sym, ◌∙◌, ap, subst, append_assoc}
 use Rattle.std.specs.Str.{bytes_eq}
 use Rattle.cfj_model.specs.ExpressionGrammar.{value_expr}
-use Rattle.cfj_model.specs.Marks.{color_of}
+use Rattle.cfj_model.specs.Marks.{marked}
 use Rattle.cfj_words.specs.Tokens.{Token, Id, ClassWord, ExtendsWord, SuperWord, ThisWord, ReturnWord, OpenBrace, CloseBrace, OpenParen, CloseParen, Semicolon, Dot, Equals, End}
 use Rattle.cfj_model.specs.Roles.{Role, used_name, other_token}
 use Rattle.formula_reader.specs.Machine as formula
@@ -16,7 +16,7 @@ use Rattle.fj_machine.specs.declared.mode.Owner.TheVariants as owner
 use Rattle.fj_machine.specs.declared.mode.Node.{Node}
 use Rattle.fj_machine.specs.declared.mode.Node.TheVariants as node
 use Rattle.fj_machine.specs.declared.mode.Mode.{Mode}
-use Rattle.fj_machine.specs.declared.mode.Mode.TheVariants.{Begin, AfterFeatures, AfterFeature, AfterFeatureComma, Start, InConstraint, BetweenClasses, AfterAt, AfterMark, AfterMarkedType, AfterClass, AfterClassName, AfterExtends, AfterParent, InMembers, AfterType, AfterFieldName, InParams, AfterParamComma, AfterParamType, AfterParam, AfterParams, InBody, AfterSuper, InSends, AfterSendComma, AfterSend, AfterSends, InAssigns, AfterThis, AfterThisDot, AfterAssigned, AfterEquals, AfterSecondName, InMethods, AfterResult, AfterMethodName, InMethodBody, InExpression, AfterBody, AtEnd}
+use Rattle.fj_machine.specs.declared.mode.Mode.TheVariants.{Begin, AfterFormat, AfterFeatures, AfterFeature, AfterFeatureComma, Start, InConstraint, BetweenClasses, AfterAt, AfterMark, AfterMarkedType, AfterClass, AfterClassName, AfterExtends, AfterParent, InMembers, AfterType, AfterFieldName, InParams, AfterParamComma, AfterParamType, AfterParam, AfterParams, InBody, AfterSuper, InSends, AfterSendComma, AfterSend, AfterSends, InAssigns, AfterThis, AfterThisDot, AfterAssigned, AfterEquals, AfterSecondName, InMethods, AfterResult, AfterMethodName, InMethodBody, InExpression, AfterBody, AtEnd}
 use Rattle.fj_machine.specs.Machine.{unnamed, State, with_field, with_method, pending, run}
 use Rattle.fj_machine.specs.Readers.{Run, with_roles, then_run, run_of}
 use Rattle.fj_parser.proofs.Complete.{same_name, formula_runs}
@@ -76,13 +76,14 @@ marked_end node.Assign w = ThisWord ∷ (Dot ∷ (Id [] ∷ (Equals ∷ second_e
 -- tokens with which a text can end from a state
 unfoldable pub closing : Mode → State → List Token
 closing Begin s = End ∷ []
+closing AfterFormat s = Semicolon ∷ (End ∷ [])
 closing AfterFeatures s = Id [] ∷ (Semicolon ∷ (End ∷ []))
 closing AfterFeature s = Semicolon ∷ (End ∷ [])
 closing AfterFeatureComma s = Id [] ∷ (Semicolon ∷ (End ∷ []))
 closing Start s = End ∷ []
 closing InConstraint s = []
 closing BetweenClasses s = End ∷ []
-closing (AfterAt n) s = Id [] ∷ marked_end n s.name
+closing (AfterAt n off) s = Id [] ∷ marked_end n s.name
 closing (AfterMark n) s = marked_end n s.name
 closing AfterMarkedType s = Id [] ∷ (Semicolon ∷ ctor_end s.name)
 closing AfterClass s = Id [] ∷ (ExtendsWord ∷ parent_end [])
@@ -153,7 +154,7 @@ closes : (m : Mode) (s : State) → is_declaring m ≡ true → Reaches AtEnd (r
 unfolding run_of closing parent_end ctor_end params_end body_end sends_end method_end second_end assigns_end methods_end
 closes InConstraint s e = never e
 closes InExpression s e = never e
-closes (AfterAt n) s e = marked_closes n (record s { colors = bit_or s.colors (color_of s.features []) })
+closes (AfterAt n off) s e = marked_closes n (record s { colors = marked s.features s.colors (record { off = off; name = [] }) })
 closes (AfterMark n) s e = marked_closes n s
 closes AfterMarkedType s e = ctor_closes (with_field (record (in_mode InMembers s) { last = [] }))
 closes AfterClass s e = refl

@@ -1,12 +1,14 @@
 -- The lists of a constructor and of a method's head, each read to its end: one reader for each production, which finds the tree.
-use Rattle.std.proofs.Common.{◌≡◌, ℕ, zero, suc, ◌<◌, Bool, true, false, if◌then◌else◌, List, [], ◌∷◌, ◌++◌, length, bit_or, Option, Some, None, refl, sym, ◌∙◌, ap, subst, arith}
+use Rattle.std.proofs.Common.{◌≡◌, ℕ, zero, suc, ◌<◌, Bool, true, false, if◌then◌else◌, List, [], ◌∷◌, ◌++◌, length, Option, Some, None, refl, sym, ◌∙◌, ap, subst, arith}
 use Rattle.std.proofs.lemmas.List.{append-nil}
 use Rattle.std.proofs.lemmas.Slice.Eq.{bytes_eq-Decides}
 use Rattle.std.specs.Str.{bytes_eq}
+use Rattle.cfj_model.specs.declared.signed.Signed.{Signed}
+use Rattle.cfj_model.specs.Coloring.{no_colors}
 use Rattle.cfj_model.specs.declared.class.Sent.{Sent}
-use Rattle.cfj_words.specs.Tokens.{Token, Id, ThisWord, CloseBrace, CloseParen, Semicolon, Comma, Dot, Equals, At}
+use Rattle.cfj_words.specs.Tokens.{Token, Id, ThisWord, CloseBrace, CloseParen, Semicolon, Comma, Dot, Equals, At, Bang}
 use Rattle.cfj_model.specs.Grammar.{Declared, Named, spell_param, spell_sent, spell_assign, value_param, value_sent, numbered}
-use Rattle.cfj_model.specs.Marks.{in_order, each_behind, separated, spell_mark, color_of, colored}
+use Rattle.cfj_model.specs.Marks.{in_order, each_behind, separated, spell_sign, spell_mark, marked, colored}
 use Rattle.cfj_model.specs.Roles.{Role, used_name}
 use Rattle.fj_machine.specs.declared.mode.Owner.{Owner}
 use Rattle.fj_machine.specs.declared.mode.Node.TheVariants as node
@@ -77,6 +79,11 @@ more_sends_text ds rest = each_behind Comma spell_sent ds (CloseParen ∷ rest)
 abbrev pub assigns_text : List Named → List Token → List Token
 assigns_text ds rest = in_order spell_assign ds (CloseBrace ∷ rest)
 
+-- a mark is longer than nothing
+pub sign_longer : (off : Bool) (w : List ℕ) (ts : List Token) → length ts < length (spell_sign off (Id w ∷ ts))
+sign_longer false w ts = omega arith
+sign_longer true w ts = omega arith
+
 -- ---- list(param)
 
 -- a parameter with the colours in hand
@@ -84,27 +91,37 @@ abbrev colored_param : Owner → State → Declared → State
 colored_param o s d = after_param o (record s { params = s.params ++ record { slot = length s.params; colors = colored s.features s.colors d.marks; of = d.of; name = d.name } ∷ [] })
 
 -- one more mark of a parameter
-mark_param : (o : Owner) (m : List ℕ) (ts : List Token) (s : State) → Read Declared spell_param (colored_param o (record s { colors = bit_or s.colors (color_of s.features m) })) ts → Read Declared spell_param (colored_param o s) (At ∷ (Id m ∷ ts))
+mark_param : (o : Owner) (m : Signed) (ts : List Token) (s : State) → Read Declared spell_param (colored_param o (record s { colors = marked s.features s.colors m })) ts → Read Declared spell_param (colored_param o s) (spell_mark m ts)
 mark_param o m ts s r =
     record {
       part = record { marks = m ∷ r.part.marks; of = r.part.of; name = r.part.name };
       rest = r.rest;
       spelled = ap (spell_mark m) r.spelled;
-      shorter = omega (arith, r.shorter);
+      shorter = omega (arith, r.shorter, sign_longer m.off m.name ts);
       goes = r.goes;
     }
 
 -- a parameter behind marks
 marked_param_read : (o : Owner) (ts : List Token) (s : State) → Accepts ts (record s { mode = AfterMark (node.Param o); of = unnamed }) → Read Declared spell_param (colored_param o s) ts
 unfolding run_of
-marked_param_read o (At ∷ (Id m ∷ ts)) s h = mark_param o m ts s (marked_param_read o ts (record s { colors = bit_or s.colors (color_of s.features m) }) h)
+marked_param_read o (At ∷ (Id word ∷ ts)) s h =
+    let m : Signed = record { off = false; name = word } in
+    mark_param o m ts s (marked_param_read o ts (record s { colors = marked s.features s.colors m }) h)
+marked_param_read o (At ∷ (Bang ∷ (Id word ∷ ts))) s h =
+    let m : Signed = record { off = true; name = word } in
+    mark_param o m ts s (marked_param_read o ts (record s { colors = marked s.features s.colors m }) h)
 marked_param_read o (Id a ∷ (Id b ∷ ts)) s h = record { part = record { marks = []; of = a; name = b }; rest = ts; spelled = refl; shorter = omega arith; goes = h }
 marked_param_read o _ s h = never h
 
 -- a parameter, behind a comma or as the first
 param_read : (o : Owner) (ts : List Token) (s : State) → Accepts ts (after_param_comma o s) → Read Declared spell_param (λ d. after_param o (with_a_param s d)) ts
 unfolding run_of
-param_read o (At ∷ (Id m ∷ ts)) s h = mark_param o m ts (record s { colors = 0 }) (marked_param_read o ts (record s { colors = bit_or 0 (color_of s.features m) }) h)
+param_read o (At ∷ (Id word ∷ ts)) s h =
+    let m : Signed = record { off = false; name = word } in
+    mark_param o m ts (record s { colors = no_colors }) (marked_param_read o ts (record s { colors = marked s.features no_colors m }) h)
+param_read o (At ∷ (Bang ∷ (Id word ∷ ts))) s h =
+    let m : Signed = record { off = true; name = word } in
+    mark_param o m ts (record s { colors = no_colors }) (marked_param_read o ts (record s { colors = marked s.features no_colors m }) h)
 param_read o (Id a ∷ (Id b ∷ ts)) s h = record { part = record { marks = []; of = a; name = b }; rest = ts; spelled = refl; shorter = omega arith; goes = h }
 param_read o _ s h = never h
 
@@ -161,27 +178,37 @@ abbrev colored_sent : State → Named → State
 colored_sent s d = after_send (record s { sends = s.sends ++ record { slot = length s.sends; colors = colored s.features s.colors d.marks; name = d.name } ∷ [] })
 
 -- one more mark of a sent name
-mark_sent : (m : List ℕ) (ts : List Token) (s : State) → Read Named spell_sent (colored_sent (record s { colors = bit_or s.colors (color_of s.features m) })) ts → Read Named spell_sent (colored_sent s) (At ∷ (Id m ∷ ts))
+mark_sent : (m : Signed) (ts : List Token) (s : State) → Read Named spell_sent (colored_sent (record s { colors = marked s.features s.colors m })) ts → Read Named spell_sent (colored_sent s) (spell_mark m ts)
 mark_sent m ts s r =
     record {
       part = record { marks = m ∷ r.part.marks; name = r.part.name };
       rest = r.rest;
       spelled = ap (spell_mark m) r.spelled;
-      shorter = omega (arith, r.shorter);
+      shorter = omega (arith, r.shorter, sign_longer m.off m.name ts);
       goes = r.goes;
     }
 
 -- a sent name behind marks
 marked_sent_read : (ts : List Token) (s : State) → Accepts ts (record s { mode = AfterMark node.Send }) → Read Named spell_sent (colored_sent s) ts
 unfolding run_of
-marked_sent_read (At ∷ (Id m ∷ ts)) s h = mark_sent m ts s (marked_sent_read ts (record s { colors = bit_or s.colors (color_of s.features m) }) h)
+marked_sent_read (At ∷ (Id word ∷ ts)) s h =
+    let m : Signed = record { off = false; name = word } in
+    mark_sent m ts s (marked_sent_read ts (record s { colors = marked s.features s.colors m }) h)
+marked_sent_read (At ∷ (Bang ∷ (Id word ∷ ts))) s h =
+    let m : Signed = record { off = true; name = word } in
+    mark_sent m ts s (marked_sent_read ts (record s { colors = marked s.features s.colors m }) h)
 marked_sent_read (Id a ∷ ts) s h = record { part = record { marks = []; name = a }; rest = ts; spelled = refl; shorter = omega arith; goes = h }
 marked_sent_read _ s h = never h
 
 -- a sent name, behind a comma or as the first
 sent_read : (ts : List Token) (s : State) → Accepts ts (after_send_comma s) → Read Named spell_sent (λ d. after_send (with_a_sent s d)) ts
 unfolding run_of
-sent_read (At ∷ (Id m ∷ ts)) s h = mark_sent m ts (record s { colors = 0 }) (marked_sent_read ts (record s { colors = bit_or 0 (color_of s.features m) }) h)
+sent_read (At ∷ (Id word ∷ ts)) s h =
+    let m : Signed = record { off = false; name = word } in
+    mark_sent m ts (record s { colors = no_colors }) (marked_sent_read ts (record s { colors = marked s.features no_colors m }) h)
+sent_read (At ∷ (Bang ∷ (Id word ∷ ts))) s h =
+    let m : Signed = record { off = true; name = word } in
+    mark_sent m ts (record s { colors = no_colors }) (marked_sent_read ts (record s { colors = marked s.features no_colors m }) h)
 sent_read (Id a ∷ ts) s h = record { part = record { marks = []; name = a }; rest = ts; spelled = refl; shorter = omega arith; goes = h }
 sent_read _ s h = never h
 
@@ -238,7 +265,7 @@ abbrev colored_assign : State → Named → State
 colored_assign s d = in_assigns (record s { assigns = s.assigns ++ record { slot = length s.assigns; colors = colored s.features s.colors d.marks; name = d.name } ∷ [] })
 
 -- behind the second name of an assignment
-second_read : (ts : List Token) (s : State) → Accepts ts (record s { mode = AfterSecondName; colors = 0; last = unnamed }) → Fixed (λ rest. Semicolon ∷ rest) (in_assigns s) ts
+second_read : (ts : List Token) (s : State) → Accepts ts (record s { mode = AfterSecondName; colors = no_colors; last = unnamed }) → Fixed (λ rest. Semicolon ∷ rest) (in_assigns s) ts
 unfolding run_of
 second_read (Semicolon ∷ ts) s h = record { rest = ts; spelled = refl; shorter = omega arith; goes = h }
 second_read _ s h = never h
@@ -259,37 +286,47 @@ assign_words_read : (ts : List Token) (s : State) → Accepts ts (record s { mod
 unfolding run_of
 assign_words_read (Dot ∷ (Id a ∷ (Equals ∷ (Id b ∷ ts)))) s h =
     let n : State = record s { assigns = s.assigns ++ record { slot = length s.assigns; colors = s.colors; name = a } ∷ [] } in
-    let p = passed (bytes_eq b a) (run ts) (used_name b ∷ []) (record n { mode = AfterSecondName; colors = 0; last = unnamed }) h in
+    let p = passed (bytes_eq b a) (run ts) (used_name b ∷ []) (record n { mode = AfterSecondName; colors = no_colors; last = unnamed }) h in
     assign_of a b ts s ((bytes_eq-Decides b a).0 p.0) (second_read ts n p.1)
 assign_words_read _ s h = never h
 
 -- one more mark of an assignment
-mark_assign : (m : List ℕ) (ts : List Token) (s : State) → Read Named spell_assign (colored_assign (record s { colors = bit_or s.colors (color_of s.features m) })) ts → Read Named spell_assign (colored_assign s) (At ∷ (Id m ∷ ts))
+mark_assign : (m : Signed) (ts : List Token) (s : State) → Read Named spell_assign (colored_assign (record s { colors = marked s.features s.colors m })) ts → Read Named spell_assign (colored_assign s) (spell_mark m ts)
 mark_assign m ts s r =
     record {
       part = record { marks = m ∷ r.part.marks; name = r.part.name };
       rest = r.rest;
       spelled = ap (spell_mark m) r.spelled;
-      shorter = omega (arith, r.shorter);
+      shorter = omega (arith, r.shorter, sign_longer m.off m.name ts);
       goes = r.goes;
     }
 
 -- an assignment behind marks
 marked_assign_read : (ts : List Token) (s : State) → Accepts ts (record s { mode = AfterMark node.Assign; last = unnamed }) → Read Named spell_assign (colored_assign s) ts
 unfolding run_of
-marked_assign_read (At ∷ (Id m ∷ ts)) s h = mark_assign m ts s (marked_assign_read ts (record s { colors = bit_or s.colors (color_of s.features m) }) h)
+marked_assign_read (At ∷ (Id word ∷ ts)) s h =
+    let m : Signed = record { off = false; name = word } in
+    mark_assign m ts s (marked_assign_read ts (record s { colors = marked s.features s.colors m }) h)
+marked_assign_read (At ∷ (Bang ∷ (Id word ∷ ts))) s h =
+    let m : Signed = record { off = true; name = word } in
+    mark_assign m ts s (marked_assign_read ts (record s { colors = marked s.features s.colors m }) h)
 marked_assign_read (ThisWord ∷ ts) s h = assign_words_read ts s h
 marked_assign_read _ s h = never h
 
 -- an assignment whose first mark has this sign before it
 mark_assign_read : (ts : List Token) (s : State) → Accepts (At ∷ ts) (in_assigns s) → Read Named spell_assign (λ d. in_assigns (with_an_assign s d)) (At ∷ ts)
 unfolding run_of
-mark_assign_read (Id m ∷ ts) s h = mark_assign m ts (record s { colors = 0 }) (marked_assign_read ts (record s { colors = bit_or 0 (color_of s.features m) }) h)
+mark_assign_read (Id word ∷ ts) s h =
+    let m : Signed = record { off = false; name = word } in
+    mark_assign m ts (record s { colors = no_colors }) (marked_assign_read ts (record s { colors = marked s.features no_colors m }) h)
+mark_assign_read (Bang ∷ (Id word ∷ ts)) s h =
+    let m : Signed = record { off = true; name = word } in
+    mark_assign m ts (record s { colors = no_colors }) (marked_assign_read ts (record s { colors = marked s.features no_colors m }) h)
 mark_assign_read _ s h = never h
 
 -- the state behind these assignments, and the brace
 abbrev pub behind_assigns : State → List Sent → State
-behind_assigns s ds = record (with_ctor (record s { assigns = ds })) { colors = 0; last = unnamed }
+behind_assigns s ds = record (with_ctor (record s { assigns = ds })) { colors = no_colors; last = unnamed }
 
 -- what {assign} is read as
 abbrev pub Assigns : List Token → State → Type 0
@@ -317,6 +354,6 @@ assigns_read (suc k) (At ∷ ts) le s h =
     let d = mark_assign_read ts s h in
     assigns_of (At ∷ ts) s d (assigns_read k d.rest (omega (arith, d.shorter)) (with_an_assign s d.part) d.goes)
 assigns_read (suc k) (ThisWord ∷ ts) le s h =
-    let d = assign_words_read ts (record s { colors = 0 }) h in
+    let d = assign_words_read ts (record s { colors = no_colors }) h in
     assigns_of (ThisWord ∷ ts) s d (assigns_read k d.rest (omega (arith, d.shorter)) (with_an_assign s d.part) d.goes)
 assigns_read (suc k) _ le s h = never h

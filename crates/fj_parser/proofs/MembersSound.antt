@@ -1,12 +1,14 @@
 -- The fields and the constructor of a class, read to their end.
-use Rattle.std.proofs.Common.{◌≡◌, ℕ, zero, suc, ◌<◌, List, [], ◌∷◌, ◌++◌, length, map, bit_or, refl, sym, ◌∙◌, ap, subst, arith, append_assoc}
+use Rattle.std.proofs.Common.{◌≡◌, ℕ, zero, suc, ◌<◌, true, false, List, [], ◌∷◌, ◌++◌, length, map, refl, sym, ◌∙◌, ap, subst, arith, append_assoc}
 use Rattle.std.proofs.lemmas.List.{append-nil}
 use Rattle.std.proofs.lemmas.Slice.Eq.{bytes_eq-Decides}
 use Rattle.std.specs.Str.{bytes_eq}
+use Rattle.cfj_model.specs.declared.signed.Signed.{Signed}
+use Rattle.cfj_model.specs.Coloring.{no_colors}
 use Rattle.cfj_model.specs.declared.class.Field.{Field}
-use Rattle.cfj_words.specs.Tokens.{Token, Id, SuperWord, OpenBrace, CloseBrace, OpenParen, CloseParen, Semicolon, Comma, At}
+use Rattle.cfj_words.specs.Tokens.{Token, Id, SuperWord, OpenBrace, CloseBrace, OpenParen, CloseParen, Semicolon, Comma, At, Bang}
 use Rattle.cfj_model.specs.Grammar.{Declared, Named, MethodTree, ClassTree, spell_field, spell_param, spell_sent, spell_assign, spell_ctor, value_field, value_param, value_sent, numbered}
-use Rattle.cfj_model.specs.Marks.{in_order, separated, spell_mark, color_of, colored}
+use Rattle.cfj_model.specs.Marks.{in_order, separated, spell_mark, marked, colored}
 use Rattle.cfj_model.specs.Roles.{other_token}
 use Rattle.fj_machine.specs.declared.mode.Owner.TheVariants as owner
 use Rattle.fj_machine.specs.declared.mode.Node.TheVariants as node
@@ -14,7 +16,7 @@ use Rattle.fj_machine.specs.declared.mode.Mode.TheVariants.{AfterMark, InParams,
 use Rattle.fj_machine.specs.Machine.{unnamed, State, run}
 use Rattle.fj_machine.specs.Readers.{run_of}
 use Rattle.fj_parser.proofs.Complete.{named, after_params, after_sends, with_a_field, behind_ctor}
-use Rattle.fj_parser.proofs.ListsSound.{Accepts, never, passed, Read, Fixed, params_text, sends_text, Params, params_read, Sends, sends_read, Assigns, assigns_read}
+use Rattle.fj_parser.proofs.ListsSound.{sign_longer, Accepts, never, passed, Read, Fixed, params_text, sends_text, Params, params_read, Sends, sends_read, Assigns, assigns_read}
 
 -- ---- the constructor
 
@@ -30,7 +32,7 @@ class_with name parent fields c methods = record { marks = []; name = name; pare
 
 -- what opens the body, up to the sent names
 abbrev Opening : List Token → State → Type 0
-Opening ts s = Fixed (λ rest. OpenBrace ∷ (SuperWord ∷ (OpenParen ∷ rest))) (record s { mode = InSends; colors = 0; of = unnamed }) ts
+Opening ts s = Fixed (λ rest. OpenBrace ∷ (SuperWord ∷ (OpenParen ∷ rest))) (record s { mode = InSends; colors = no_colors; of = unnamed }) ts
 
 -- only these may stand behind the parameters
 opening_read : (ts : List Token) (s : State) → Accepts ts (after_params owner.Constructor s) → Opening ts s
@@ -40,7 +42,7 @@ opening_read _ s h = never h
 
 -- the semicolon behind the sent names
 abbrev Semi : List Token → State → Type 0
-Semi ts s = Fixed (λ rest. Semicolon ∷ rest) (record s { mode = InAssigns; colors = 0 }) ts
+Semi ts s = Fixed (λ rest. Semicolon ∷ rest) (record s { mode = InAssigns; colors = no_colors }) ts
 
 -- only the semicolon may stand there
 semi_read : (ts : List Token) (s : State) → Accepts ts (after_sends s) → Semi ts s
@@ -66,7 +68,7 @@ abbrev pub behind_this : State → CtorTree → State
 behind_this s c = behind_ctor (class_with [] [] [] c []) s
 
 -- a constructor of its parts
-ctor_of : (ts : List Token) (s : State) (p : Params owner.Constructor ts s) (o : Opening p.rest (record s { params = numbered (value_param s.features) 0 p.part })) (t : Sends o.rest (record s { params = numbered (value_param s.features) 0 p.part; colors = 0; of = unnamed })) (m : Semi t.rest (record s { params = numbered (value_param s.features) 0 p.part; sends = numbered (value_sent s.features) 0 t.part; colors = 0; of = unnamed })) → Assigns m.rest (record s { params = numbered (value_param s.features) 0 p.part; sends = numbered (value_sent s.features) 0 t.part; assigns = []; colors = 0; of = unnamed }) → Read CtorTree ctor_rest (behind_this s) ts
+ctor_of : (ts : List Token) (s : State) (p : Params owner.Constructor ts s) (o : Opening p.rest (record s { params = numbered (value_param s.features) 0 p.part })) (t : Sends o.rest (record s { params = numbered (value_param s.features) 0 p.part; colors = no_colors; of = unnamed })) (m : Semi t.rest (record s { params = numbered (value_param s.features) 0 p.part; sends = numbered (value_sent s.features) 0 t.part; colors = no_colors; of = unnamed })) → Assigns m.rest (record s { params = numbered (value_param s.features) 0 p.part; sends = numbered (value_sent s.features) 0 t.part; assigns = []; colors = no_colors; of = unnamed }) → Read CtorTree ctor_rest (behind_this s) ts
 ctor_of ts s p o t m a =
     record {
       part = record { params = p.part; sends = t.part; assigns = a.part };
@@ -77,9 +79,9 @@ ctor_of ts s p o t m a =
     }
 
 -- a constructor behind its name and the bracket
-pub ctor_read : (k : ℕ) (ts : List Token) → length ts < k → (s : State) → Accepts ts (record s { mode = InParams owner.Constructor; params = []; sends = []; assigns = []; colors = 0; of = unnamed; last = unnamed }) → Read CtorTree ctor_rest (behind_this s) ts
+pub ctor_read : (k : ℕ) (ts : List Token) → length ts < k → (s : State) → Accepts ts (record s { mode = InParams owner.Constructor; params = []; sends = []; assigns = []; colors = no_colors; of = unnamed; last = unnamed }) → Read CtorTree ctor_rest (behind_this s) ts
 ctor_read k ts le s h =
-    let n : State = record s { params = []; sends = []; assigns = []; colors = 0; of = unnamed; last = unnamed } in
+    let n : State = record s { params = []; sends = []; assigns = []; colors = no_colors; of = unnamed; last = unnamed } in
     let p = params_read owner.Constructor k ts le n h in
     let in_body : State = record n { params = numbered (value_param s.features) 0 p.part } in
     let o = opening_read p.rest in_body p.goes in
@@ -94,20 +96,25 @@ abbrev colored_field : List ℕ → State → Declared → State
 colored_field w s d = named w (record s { fields = s.fields ++ record { alt = 0; colors = colored s.features s.colors d.marks; of = d.of; name = d.name } ∷ [] })
 
 -- one more mark of a field
-mark_field : (m : List ℕ) (ts : List Token) (w : List ℕ) (s : State) → Read Declared spell_field (colored_field w (record s { colors = bit_or s.colors (color_of s.features m) })) ts → Read Declared spell_field (colored_field w s) (At ∷ (Id m ∷ ts))
+mark_field : (m : Signed) (ts : List Token) (w : List ℕ) (s : State) → Read Declared spell_field (colored_field w (record s { colors = marked s.features s.colors m })) ts → Read Declared spell_field (colored_field w s) (spell_mark m ts)
 mark_field m ts w s r =
     record {
       part = record { marks = m ∷ r.part.marks; of = r.part.of; name = r.part.name };
       rest = r.rest;
       spelled = ap (spell_mark m) r.spelled;
-      shorter = omega (arith, r.shorter);
+      shorter = omega (arith, r.shorter, sign_longer m.off m.name ts);
       goes = r.goes;
     }
 
 -- a field behind marks
 marked_field_read : (ts : List Token) (w : List ℕ) (s : State) → Accepts ts (record (named w s) { mode = AfterMark node.Member; colors = s.colors }) → Read Declared spell_field (colored_field w s) ts
 unfolding run_of
-marked_field_read (At ∷ (Id m ∷ ts)) w s h = mark_field m ts w s (marked_field_read ts w (record s { colors = bit_or s.colors (color_of s.features m) }) h)
+marked_field_read (At ∷ (Id word ∷ ts)) w s h =
+    let m : Signed = record { off = false; name = word } in
+    mark_field m ts w s (marked_field_read ts w (record s { colors = marked s.features s.colors m }) h)
+marked_field_read (At ∷ (Bang ∷ (Id word ∷ ts))) w s h =
+    let m : Signed = record { off = true; name = word } in
+    mark_field m ts w s (marked_field_read ts w (record s { colors = marked s.features s.colors m }) h)
 marked_field_read (Id a ∷ (Id b ∷ (Semicolon ∷ ts))) w s h = record { part = record { marks = []; of = a; name = b }; rest = ts; spelled = refl; shorter = omega arith; goes = h }
 marked_field_read _ w s h = never h
 
@@ -119,7 +126,12 @@ data Member (ts : List Token) (w : List ℕ) (s : State) : Type 0 where
 -- what stands next in a class
 member_read : (ts : List Token) (w : List ℕ) (s : State) → Accepts ts (named w s) → Member ts w s
 unfolding run_of
-member_read (At ∷ (Id m ∷ ts)) w s h = field (mark_field m ts w (record s { colors = 0 }) (marked_field_read ts w (record s { colors = bit_or 0 (color_of s.features m) }) h))
+member_read (At ∷ (Id word ∷ ts)) w s h =
+    let m : Signed = record { off = false; name = word } in
+    field (mark_field m ts w (record s { colors = no_colors }) (marked_field_read ts w (record s { colors = marked s.features no_colors m }) h))
+member_read (At ∷ (Bang ∷ (Id word ∷ ts))) w s h =
+    let m : Signed = record { off = true; name = word } in
+    field (mark_field m ts w (record s { colors = no_colors }) (marked_field_read ts w (record s { colors = marked s.features no_colors m }) h))
 member_read (Id a ∷ (Id b ∷ (Semicolon ∷ ts))) w s h = field (record { part = record { marks = []; of = a; name = b }; rest = ts; spelled = refl; shorter = omega arith; goes = h })
 member_read (Id a ∷ (OpenParen ∷ ts)) w s h =
     let p = passed (bytes_eq a w) (run ts) (other_token ∷ []) (record (named w s) { mode = InParams owner.Constructor }) h in

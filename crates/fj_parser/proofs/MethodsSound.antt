@@ -1,13 +1,15 @@
 -- The methods of a class, read to their end; a body's expression is read by the expression reader's machine.
-use Rattle.std.proofs.Common.{◌≡◌, ℕ, zero, suc, ◌<◌, Bool, true, false, List, [], ◌∷◌, ◌++◌, length, map, bit_or, Option, Some, None, refl, sym, ◌∙◌, ap, subst, arith, append_assoc}
+use Rattle.std.proofs.Common.{◌≡◌, ℕ, zero, suc, ◌<◌, Bool, true, false, List, [], ◌∷◌, ◌++◌, length, map, Option, Some, None, refl, sym, ◌∙◌, ap, subst, arith, append_assoc}
 use Rattle.std.proofs.lemmas.List.{append-nil}
 use Rattle.std.proofs.lemmas.Option.{same_Some}
+use Rattle.cfj_model.specs.declared.signed.Signed.{Signed}
+use Rattle.cfj_model.specs.Coloring.{no_colors}
 use Rattle.cfj_model.specs.declared.class.Method.{Method}
 use Rattle.cfj_model.specs.declared.expr.Expr.{Expr}
-use Rattle.cfj_words.specs.Tokens.{Token, Id, ReturnWord, OpenBrace, CloseBrace, OpenParen, Semicolon, At}
+use Rattle.cfj_words.specs.Tokens.{Token, Id, ReturnWord, OpenBrace, CloseBrace, OpenParen, Semicolon, At, Bang}
 use Rattle.cfj_model.specs.ExpressionGrammar.{ExprTree, spell_expr, value_expr}
 use Rattle.cfj_model.specs.Grammar.{Declared, MethodTree, spell_method, value_param, value_method, numbered}
-use Rattle.cfj_model.specs.Marks.{in_order, spell_mark, color_of, colored}
+use Rattle.cfj_model.specs.Marks.{in_order, spell_mark, marked, colored}
 use Rattle.expression_reader.specs.Machine as expression
 use Rattle.expression_reader.specs.declared.mode.Mode as expression_mode
 use Rattle.expression_reader.specs.declared.mode.Mode.TheVariants as reading
@@ -21,7 +23,7 @@ use Rattle.fj_machine.specs.Machine.{unnamed, State, with_class, with_method, af
 use Rattle.fj_machine.specs.Readers.{then_run, run_of}
 use Rattle.fj_parser.proofs.Complete.{after_params, in_methods, with_a_method}
 use Rattle.fj_parser.proofs.Expressions.{in_body, expression_text}
-use Rattle.fj_parser.proofs.ListsSound.{is_whole, Accepts, Stops, never, Read, Fixed, params_text, Params, params_read}
+use Rattle.fj_parser.proofs.ListsSound.{sign_longer, is_whole, Accepts, Stops, never, Read, Fixed, params_text, Params, params_read}
 
 -- ---- expr ";"
 
@@ -140,7 +142,7 @@ ReadMethod ts s = Read MethodTree spell_method (colored_method s) ts
 
 -- what opens the body, up to the expression
 abbrev Opening : List Token → State → Type 0
-Opening ts s = Fixed (λ rest. OpenBrace ∷ (ReturnWord ∷ rest)) (record s { mode = InExpression; colors = 0; of = unnamed }) ts
+Opening ts s = Fixed (λ rest. OpenBrace ∷ (ReturnWord ∷ rest)) (record s { mode = InExpression; colors = no_colors; of = unnamed }) ts
 
 opening_read : (ts : List Token) (s : State) → Accepts ts (after_params owner.Method s) → Opening ts s
 unfolding run_of
@@ -185,20 +187,25 @@ words_read k a b ts le s h =
     method_of a b ts s p o x (brace_read x.rest (with_method n (value_expr s.features 0 x.part).0) x.goes)
 
 -- one more mark of a method
-mark_method : (m : List ℕ) (ts : List Token) (s : State) → ReadMethod ts (record s { colors = bit_or s.colors (color_of s.features m) }) → ReadMethod (At ∷ (Id m ∷ ts)) s
+mark_method : (m : Signed) (ts : List Token) (s : State) → ReadMethod ts (record s { colors = marked s.features s.colors m }) → ReadMethod (spell_mark m ts) s
 mark_method m ts s r =
     record {
       part = record { marks = m ∷ r.part.marks; result = r.part.result; name = r.part.name; params = r.part.params; body = r.part.body };
       rest = r.rest;
       spelled = ap (spell_mark m) r.spelled;
-      shorter = omega (arith, r.shorter);
+      shorter = omega (arith, r.shorter, sign_longer m.off m.name ts);
       goes = r.goes;
     }
 
 -- a method behind marks
 marked_method_read : (k : ℕ) (ts : List Token) → length ts < k → (s : State) → Accepts ts (record (in_methods s) { mode = AfterMark node.Method; colors = s.colors }) → ReadMethod ts s
 unfolding run_of
-marked_method_read k (At ∷ (Id m ∷ ts)) le s h = mark_method m ts s (marked_method_read k ts (omega arith) (record s { colors = bit_or s.colors (color_of s.features m) }) h)
+marked_method_read k (At ∷ (Id word ∷ ts)) le s h =
+    let m : Signed = record { off = false; name = word } in
+    mark_method m ts s (marked_method_read k ts (omega arith) (record s { colors = marked s.features s.colors m }) h)
+marked_method_read k (At ∷ (Bang ∷ (Id word ∷ ts))) le s h =
+    let m : Signed = record { off = true; name = word } in
+    mark_method m ts s (marked_method_read k ts (omega arith) (record s { colors = marked s.features s.colors m }) h)
 marked_method_read k (Id a ∷ (Id b ∷ (OpenParen ∷ ts))) le s h = words_read k a b ts (omega arith) s h
 marked_method_read k _ le s h = never h
 
@@ -217,7 +224,7 @@ abbrev pub Methods : List Token → State → Type 0
 Methods ts s = Read (List MethodTree) methods_text (λ ms. behind_methods s (s.methods ++ map (value_method s.features) ms)) ts
 
 -- a method and more
-methods_of : (ts : List Token) (s : State) (d : ReadMethod ts (record s { colors = 0 })) → Methods d.rest (with_a_method s d.part) → Methods ts s
+methods_of : (ts : List Token) (s : State) (d : ReadMethod ts (record s { colors = no_colors })) → Methods d.rest (with_a_method s d.part) → Methods ts s
 methods_of ts s d m =
     record {
       part = d.part ∷ m.part;
@@ -232,10 +239,15 @@ pub methods_read : (k : ℕ) (ts : List Token) → length ts < k → (s : State)
 unfolding run_of
 methods_read zero ts le s h = absurd (omega arith)
 methods_read (suc k) (CloseBrace ∷ ts) le s h = record { part = []; rest = ts; spelled = refl; shorter = omega arith; goes = subst (λ ms. Accepts ts (behind_methods s ms)) (sym (append-nil s.methods)) h }
-methods_read (suc k) (At ∷ (Id m ∷ ts)) le s h =
-    let d = mark_method m ts (record s { colors = 0 }) (marked_method_read (suc k) ts (omega arith) (record s { colors = bit_or 0 (color_of s.features m) }) h) in
-    methods_of (At ∷ (Id m ∷ ts)) s d (methods_read k d.rest (omega (arith, d.shorter)) (with_a_method s d.part) d.goes)
+methods_read (suc k) (At ∷ (Id w ∷ ts)) le s h =
+    let m : Signed = record { off = false; name = w } in
+    let d = mark_method m ts (record s { colors = no_colors }) (marked_method_read (suc k) ts (omega arith) (record s { colors = marked s.features no_colors m }) h) in
+    methods_of (spell_mark m ts) s d (methods_read k d.rest (omega (arith, d.shorter)) (with_a_method s d.part) d.goes)
+methods_read (suc k) (At ∷ (Bang ∷ (Id w ∷ ts))) le s h =
+    let m : Signed = record { off = true; name = w } in
+    let d = mark_method m ts (record s { colors = no_colors }) (marked_method_read (suc k) ts (omega arith) (record s { colors = marked s.features no_colors m }) h) in
+    methods_of (spell_mark m ts) s d (methods_read k d.rest (omega (arith, d.shorter)) (with_a_method s d.part) d.goes)
 methods_read (suc k) (Id a ∷ (Id b ∷ (OpenParen ∷ ts))) le s h =
-    let d = words_read (suc k) a b ts (omega arith) (record s { colors = 0 }) h in
+    let d = words_read (suc k) a b ts (omega arith) (record s { colors = no_colors }) h in
     methods_of (Id a ∷ (Id b ∷ (OpenParen ∷ ts))) s d (methods_read k d.rest (omega (arith, d.shorter)) (with_a_method s d.part) d.goes)
 methods_read (suc k) _ le s h = never h

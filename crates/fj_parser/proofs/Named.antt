@@ -2,10 +2,14 @@
 use Rattle.std.proofs.Common.{◌≡◌, ℕ, Bool, true, false, not, if◌then◌else◌, List, [], ◌∷◌, ◌++◌, Option, Some, None, refl, sym, ap, subst, ◌∙◌}
 use Rattle.std.specs.Borrow.{Bor}
 use Rattle.std.proofs.lemmas.Bool.{true≢false, and_from}
+use Rattle.std.proofs.lemmas.Slice.Eq.{bytes_eq-Decides}
+use Rattle.std.specs.Str.{bytes_eq}
 use Rattle.std.proofs.lemmas.Option.{none-some}
 use Rattle.cfj_model.specs.declared.fault.FaultKind.{FaultKind}
 use Rattle.cfj_words.specs.Names.{is_identifier, is_name}
-use Rattle.cfj_model.specs.Roles.{Role, Tally, broken_by, is_long, AreWithin}
+use Rattle.cfj_words.proofs.Identifiers.{format_is_identifier}
+use Rattle.cfj_model.specs.Grammar.{format_word}
+use Rattle.cfj_model.specs.Roles.{Role, format_line, used_name, Tally, broken_by, is_long, AreWithin}
 use Rattle.cfj_words.specs.Tokens.{Token, Id, NewWord, ThisWord, TrueWord, FalseWord, OpenParen, Bang, Ampersand, Bar, Arrow, DoubleArrow, Dot}
 use Rattle.expression_reader.specs.declared.mode.Mode as reading
 use Rattle.expression_reader.specs.declared.mode.Mode.TheVariants as at
@@ -17,7 +21,7 @@ use Rattle.fj_machine.specs.Machine.{State, name_role, pending_in, role, role_in
 use Rattle.fj_machine.specs.MachineViews.{names_fit_in}
 use Rattle.fj_parser.specs.Waiting.{WaitedWithin}
 use Rattle.fj_machine.specs.declared.mode.Mode.{Mode}
-use Rattle.fj_machine.specs.declared.mode.Mode.TheVariants.{InConstraint, AfterMark, AfterClass, AfterParamType, InExpression}
+use Rattle.fj_machine.specs.declared.mode.Mode.TheVariants.{Begin, InConstraint, AfterMark, AfterClass, AfterParamType, InExpression}
 use Rattle.fj_machine.specs.declared.mode.Node.TheVariants as node
 use Rattle.fj_machine.specs.declared.mode.Owner.TheVariants as owner
 use Rattle.fj_symbols.specs.Views.{is_identifier_role, is_name_token, is_read, symbol_seen}
@@ -26,7 +30,13 @@ use Rattle.fj_symbols.specs.declared.symbol.Symbol.TheVariants as symbol
 
 -- ---- identifiers
 
+-- the word of the line for format Two is an identifier
+line_is : (w : List ℕ) (b : Bool) → bytes_eq w format_word ≡ b → is_identifier_role (if b then format_line else used_name w) ≡ is_identifier w
+line_is w true h = sym (ap is_identifier ((bytes_eq-Decides w format_word).0 h) ∙ format_is_identifier)
+line_is w false h = refl
+
 name_is : (m : Mode) (w : List ℕ) → is_identifier_role (name_role m w) ≡ is_identifier w
+name_is Begin w = line_is w (bytes_eq w format_word) refl
 name_is (AfterMark node.Class) w = refl
 name_is (AfterMark node.Member) w = refl
 name_is (AfterMark node.Method) w = refl
@@ -54,7 +64,7 @@ formula_named f DoubleArrow h = refl
 formula_named f _ h = refl
 
 expression_name_is : (m : reading.Mode) (w : List ℕ) → is_identifier_role (expression.name_role m w) ≡ is_identifier w
-expression_name_is (at.AfterAt h before colors) w = refl
+expression_name_is (at.AfterAt h before colors off) w = refl
 expression_name_is (at.AfterDot x) w = refl
 expression_name_is at.AfterNew w = refl
 expression_name_is _ w = refl
@@ -84,7 +94,12 @@ untold_next : (b c : Bool) (k j : FaultKind) (o : Option FaultKind) → (if b th
 untold_next true c k j o e = absurd (none-some k (sym e))
 untold_next false c k j o e = untold c j o e
 
+line_short : (w : List ℕ) (t : Tally) (b : Bool) → bytes_eq w format_word ≡ b → broken_by t (if b then format_line else used_name w) ≡ None → is_long w ≡ false
+line_short w t true e h = ap is_long ((bytes_eq-Decides w format_word).0 e)
+line_short w t false e h = untold _ _ _ h
+
 name_short : (m : Mode) (w : List ℕ) (t : Tally) → broken_by t (name_role m w) ≡ None → is_long w ≡ false
+name_short Begin w t h = line_short w t (bytes_eq w format_word) refl h
 name_short AfterClass w t h = untold_next _ _ _ _ _ h
 name_short (AfterMark node.Class) w t h = untold _ _ _ h
 name_short (AfterMark node.Member) w t h = untold _ _ _ h

@@ -1,13 +1,14 @@
 -- Where some identifier could stand, one can; and elsewhere none.
 use lib.Utf8.{encode}
-use Rattle.std.proofs.Common.{◌≡◌, ℕ, Bool, true, false, ◌&&◌, ◌||◌, if◌then◌else◌, List, [], ◌∷◌, codes, Option, Some, None, refl, sym, ap, subst}
+use Rattle.std.proofs.Common.{◌≡◌, ℕ, Bool, true, false, not, ◌&&◌, ◌||◌, if◌then◌else◌, List, [], ◌∷◌, codes, Option, Some, None, refl, sym, ◌∙◌, ap, subst}
 use Rattle.std.specs.Str.{chars, bytes_eq, is_utf8}
 use Rattle.cfj_model.specs.declared.expr.Expr.{Expr}
 use Rattle.cfj_logic.specs.declared.formula.Formula.{Formula}
 use Rattle.cfj_words.specs.Names.{is_identifier, is_reserved}
-use Rattle.cfj_model.specs.Grammar.{constraint_word, features_word}
+use Rattle.cfj_model.specs.Coloring.{is_two}
+use Rattle.cfj_model.specs.Grammar.{constraint_word, features_word, format_word}
 use Rattle.cfj_model.specs.Roles.{Role}
-use Rattle.cfj_words.specs.Tokens.{Token, Id, ClassWord, ExtendsWord, SuperWord, ThisWord, ReturnWord, OpenBrace, CloseBrace, OpenParen, CloseParen, Semicolon, Comma, Dot, Equals, At, End}
+use Rattle.cfj_words.specs.Tokens.{Token, Id, ClassWord, ExtendsWord, SuperWord, ThisWord, ReturnWord, OpenBrace, CloseBrace, OpenParen, CloseParen, Semicolon, Comma, Dot, Equals, At, Bang, End}
 use Rattle.cfj_words.proofs.Identifiers.{features_is_identifier, constraint_is_identifier}
 use Rattle.fj_symbols.specs.Views.{is_read, are_read}
 use Rattle.formula_reader.specs.Machine as formula
@@ -18,8 +19,8 @@ use Rattle.fj_parser.specs.Laws.{GoesByName}
 use Rattle.fj_machine.specs.declared.mode.Owner.TheVariants as owner
 use Rattle.fj_machine.specs.declared.mode.Node.TheVariants as node
 use Rattle.fj_machine.specs.declared.mode.Mode.{Mode}
-use Rattle.fj_machine.specs.declared.mode.Mode.TheVariants.{Begin, AfterFeatures, AfterFeature, AfterFeatureComma, Start, InConstraint, BetweenClasses, AfterAt, AfterMark, AfterMarkedType, AfterClass, AfterClassName, AfterExtends, AfterParent, InMembers, AfterType, AfterFieldName, InParams, AfterParamComma, AfterParamType, AfterParam, AfterParams, InBody, AfterSuper, InSends, AfterSendComma, AfterSend, AfterSends, InAssigns, AfterThis, AfterThisDot, AfterAssigned, AfterEquals, AfterSecondName, InMethods, AfterResult, AfterMethodName, InMethodBody, InExpression, AfterBody}
-use Rattle.fj_machine.specs.Machine.{unnamed, State, start, after_formula, in_formula, after_expression, in_expression, opens_constraint, step_in, step, emitted, takes_name_in, reader, run}
+use Rattle.fj_machine.specs.declared.mode.Mode.TheVariants.{Begin, AfterFormat, AfterFeatures, AfterFeature, AfterFeatureComma, Start, InConstraint, BetweenClasses, AfterAt, AfterMark, AfterMarkedType, AfterClass, AfterClassName, AfterExtends, AfterParent, InMembers, AfterType, AfterFieldName, InParams, AfterParamComma, AfterParamType, AfterParam, AfterParams, InBody, AfterSuper, InSends, AfterSendComma, AfterSend, AfterSends, InAssigns, AfterThis, AfterThisDot, AfterAssigned, AfterEquals, AfterSecondName, InMethods, AfterResult, AfterMethodName, InMethodBody, InExpression, AfterBody}
+use Rattle.fj_machine.specs.Machine.{unnamed, State, start, after_formula, in_formula, after_expression, in_expression, opens_constraint, opens_format, to, step_in, step, emitted, takes_name_in, reader, run}
 use Rattle.fj_machine.specs.Readers.{Run, then_run, run_of}
 use Rattle.fj_parser.proofs.Complete.{same_name}
 
@@ -76,10 +77,11 @@ kept_expression s e (Some n) = by (expression.expression n)
 
 -- a step keeps it
 kept_step : (m : Mode) (s : State) (t : Token) → Kept m s → is_read t ≡ true → KeptIn (step_in m (record s { mode = m }) t)
-kept_step Begin s (Id w) k r = kept_either (bytes_eq w features_word) (record s { mode = AfterFeatures }) (opens_constraint s w) tt (kept_if (bytes_eq w constraint_word) (record s { mode = InConstraint }) tt)
+kept_step Begin s (Id w) k r = kept_either (opens_format s w) (record s { mode = AfterFormat }) (if bytes_eq w features_word then to AfterFeatures s else opens_constraint s w) tt (kept_either (bytes_eq w features_word) (record s { mode = AfterFeatures }) (opens_constraint s w) tt (kept_if (bytes_eq w constraint_word) (record s { mode = InConstraint }) tt))
 kept_step Begin s At k r = tt
 kept_step Begin s ClassWord k r = tt
 kept_step Begin s End k r = tt
+kept_step AfterFormat s Semicolon k r = tt
 kept_step AfterFeatures s (Id w) k r = tt
 kept_step AfterFeature s Comma k r = tt
 kept_step AfterFeature s Semicolon k r = tt
@@ -92,7 +94,9 @@ kept_step BetweenClasses s End k r = tt
 kept_step Start s At k r = tt
 kept_step Start s ClassWord k r = tt
 kept_step Start s End k r = tt
-kept_step (AfterAt n) s (Id w) k r = tt
+kept_step (AfterAt n off) s (Id w) k r = tt
+kept_step (AfterAt n false) s Bang k r = tt
+kept_step (AfterAt n true) s Bang k r = tt
 kept_step (AfterMark node.Class) s At k r = tt
 kept_step (AfterMark node.Class) s ClassWord k r = tt
 kept_step (AfterMark node.Member) s At k r = tt
@@ -181,18 +185,24 @@ pub record GoesIn (m : Mode) (s : State) : Type 0 where
 by_some : (m : Mode) (s n : State) → step_in m s (Id some_name) ≡ Some n → GoesIn m s
 by_some m s n e = record { name = some_name; next = n; is = some_name_is; goes = e }
 
+-- the word of the feature line isn't that of the line for format Two
+not_format_word : (s : State) → step_in Begin s (Id features_word) ≡ (if bytes_eq features_word features_word then to AfterFeatures s else opens_constraint s features_word)
+not_format_word s =
+    let differs : bytes_eq features_word format_word ≡ false = refl in
+    ap (λ b. if b && not (is_two s.format) then to AfterFormat s else if bytes_eq features_word features_word then to AfterFeatures s else opens_constraint s features_word) differs
+
 -- where some identifier could stand, one can
 pub name_goes : (m : Mode) (s : State) → Kept m s → takes_name_in m s ≡ true → GoesIn m s
 name_goes Begin s k e =
     let n : State = record s { mode = AfterFeatures } in
-    record { name = features_word; next = n; is = features_is_identifier; goes = ap (λ b. if b then Some n else opens_constraint s features_word) (same_name features_word) }
+    record { name = features_word; next = n; is = features_is_identifier; goes = not_format_word s ∙ ap (λ b. if b then Some n else opens_constraint s features_word) (same_name features_word) }
 name_goes Start s k e =
     let n : State = record s { mode = InConstraint } in
     record { name = constraint_word; next = n; is = constraint_is_identifier; goes = ap (λ b. if b then Some n else None) (same_name constraint_word) }
 name_goes InConstraint s k e = record { name = some_name; next = _; is = some_name_is; goes = ap (in_formula s) (formula_law.name_goes s.features s.formula some_name e) }
 name_goes AfterFeatures s k e = by_some AfterFeatures s _ refl
 name_goes AfterFeatureComma s k e = by_some AfterFeatureComma s _ refl
-name_goes (AfterAt n) s k e = by_some (AfterAt n) s _ refl
+name_goes (AfterAt n off) s k e = by_some (AfterAt n off) s _ refl
 name_goes (AfterMark node.Member) s k e = by_some (AfterMark node.Member) s _ refl
 name_goes InExpression s k e =
     let g = expression_law.name_goes s.features s.expression some_name e in
@@ -226,7 +236,7 @@ name_stops Start s w e = absurd (let no : ⊥ = cc e in no)
 name_stops Begin s w e = absurd (let no : ⊥ = cc e in no)
 name_stops AfterFeatures s w e = absurd (let no : ⊥ = cc e in no)
 name_stops AfterFeatureComma s w e = absurd (let no : ⊥ = cc e in no)
-name_stops (AfterAt n) s w e = absurd (let no : ⊥ = cc e in no)
+name_stops (AfterAt n off) s w e = absurd (let no : ⊥ = cc e in no)
 name_stops (AfterMark node.Member) s w e = absurd (let no : ⊥ = cc e in no)
 name_stops (AfterMark node.Method) s w e = absurd (let no : ⊥ = cc e in no)
 name_stops (AfterMark (node.Param o)) s w e = absurd (let no : ⊥ = cc e in no)

@@ -6,9 +6,10 @@ use Rattle.std.specs.Str.{bytes_eq}
 use Rattle.cfj_model.specs.declared.class.Class.{Class}
 use Rattle.cfj_model.specs.declared.class.Method.{Method}
 use Rattle.cfj_model.specs.declared.expr.Expr.{Expr}
+use Rattle.cfj_model.specs.declared.feature_model.Format.{Format}
 use Rattle.cfj_logic.specs.declared.formula.Formula.{Formula}
 use Rattle.cfj_model.specs.Grammar.{constraint_word, features_word}
-use Rattle.cfj_words.specs.Tokens.{Token, Id, ClassWord, ExtendsWord, SuperWord, ThisWord, ReturnWord, OpenBrace, CloseBrace, OpenParen, CloseParen, Semicolon, Comma, Dot, Equals, At, End}
+use Rattle.cfj_words.specs.Tokens.{Token, Id, ClassWord, ExtendsWord, SuperWord, ThisWord, ReturnWord, OpenBrace, CloseBrace, OpenParen, CloseParen, Semicolon, Comma, Dot, Equals, At, Bang, End}
 use Rattle.cfj_model.specs.Roles.{Role}
 use Rattle.formula_reader.specs.Machine as formula
 use Rattle.expression_reader.specs.Machine as expression
@@ -18,9 +19,9 @@ use Rattle.fj_machine.specs.declared.mode.Owner.TheVariants as owner
 use Rattle.fj_machine.specs.declared.mode.Node.{Node}
 use Rattle.fj_machine.specs.declared.mode.Node.TheVariants as node
 use Rattle.fj_machine.specs.declared.mode.Mode.{Mode}
-use Rattle.fj_machine.specs.declared.mode.Mode.TheVariants.{Begin, AfterFeatures, AfterFeature, AfterFeatureComma, Start, InConstraint, BetweenClasses, AfterAt, AfterMark, AfterMarkedType, AfterClass, AfterClassName, AfterExtends, AfterParent, InMembers, AfterType, AfterFieldName, InParams, AfterParamComma, AfterParamType, AfterParam, AfterParams, InBody, AfterSuper, InSends, AfterSendComma, AfterSend, AfterSends, InAssigns, AfterThis, AfterThisDot, AfterAssigned, AfterEquals, AfterSecondName, InMethods, AfterResult, AfterMethodName, InMethodBody, InExpression, AfterBody, AtEnd}
+use Rattle.fj_machine.specs.declared.mode.Mode.TheVariants.{Begin, AfterFormat, AfterFeatures, AfterFeature, AfterFeatureComma, Start, InConstraint, BetweenClasses, AfterAt, AfterMark, AfterMarkedType, AfterClass, AfterClassName, AfterExtends, AfterParent, InMembers, AfterType, AfterFieldName, InParams, AfterParamComma, AfterParamType, AfterParam, AfterParams, InBody, AfterSuper, InSends, AfterSendComma, AfterSend, AfterSends, InAssigns, AfterThis, AfterThisDot, AfterAssigned, AfterEquals, AfterSecondName, InMethods, AfterResult, AfterMethodName, InMethodBody, InExpression, AfterBody, AtEnd}
 use Rattle.fj_parser.specs.Goals.{none_yet, step_for, reader_for}
-use Rattle.fj_machine.specs.Machine.{unnamed, State, class_of, after_formula, in_formula, after_expression, in_expression, opens_constraint, step_in, step, emitted}
+use Rattle.fj_machine.specs.Machine.{unnamed, State, class_of, after_formula, in_formula, after_expression, in_expression, opens_constraint, opens_format, to, step_in, step, emitted}
 use Rattle.fj_machine.specs.Readers.{Run, then_run, run_of}
 
 -- lists that are the same with one more item
@@ -47,40 +48,40 @@ pub record Follows (g h : Goal) (Here Good : State → Type 0) : Type 0 where
   pub back : (s n : State) (t : Token) → step_for g s.mode s t ≡ Some n → Good n → Good s
   pub same : (s n : State) (t : Token) → Here s → Good n → step_for g s.mode s t ≡ Some n → step_for h s.mode s t ≡ Some n
 
-module _ (g h : Goal) (Here Good : State → Type 0) (f : Follows g h Here Good) (fs fs2 : List (List ℕ)) (class class2 : List ℕ) where
+module _ (g h : Goal) (Here Good : State → Type 0) (f : Follows g h Here Good) (format format2 : Format) (fs fs2 : List (List ℕ)) (class class2 : List ℕ) where
   -- each state that is reached is as its start
-  pub here_run : (ts : List Token) (s n : State) (rs : List Role) → Here s → run_of (reader_for g fs class) ts s ≡ (Some n, rs) → Here n
+  pub here_run : (ts : List Token) (s n : State) (rs : List Role) → Here s → run_of (reader_for g format fs class) ts s ≡ (Some n, rs) → Here n
   unfolding run_of
   here_run [] s n rs k e = subst Here (same_Some s n (ap (λ (p : Run State). p.0) e)) k
-  here_run (t ∷ ts) s n rs k e = go (λ x j r. here_run ts x n (run_of (reader_for g fs class) ts x).1 j r) (step_for g s.mode s t) refl e
+  here_run (t ∷ ts) s n rs k e = go (λ x j r. here_run ts x n (run_of (reader_for g format fs class) ts x).1 j r) (step_for g s.mode s t) refl e
     where
-      go : ((x : State) → Here x → run_of (reader_for g fs class) ts x ≡ (Some n, (run_of (reader_for g fs class) ts x).1) → Here n) → (o : Option State) → step_for g s.mode s t ≡ o → then_run (run_of (reader_for g fs class) ts) (emitted s t) o ≡ (Some n, rs) → Here n
+      go : ((x : State) → Here x → run_of (reader_for g format fs class) ts x ≡ (Some n, (run_of (reader_for g format fs class) ts x).1) → Here n) → (o : Option State) → step_for g s.mode s t ≡ o → then_run (run_of (reader_for g format fs class) ts) (emitted s t) o ≡ (Some n, rs) → Here n
       go ih None goes e = absurd (none-some n (ap (λ (p : Run State). p.0) e))
-      go ih (Some x) goes e = ih x (f.onwards s x t k goes) (ap (λ (p : Run State). (p.0, (run_of (reader_for g fs class) ts x).1)) e)
+      go ih (Some x) goes e = ih x (f.onwards s x t k goes) (ap (λ (p : Run State). (p.0, (run_of (reader_for g format fs class) ts x).1)) e)
 
   -- a run that leads to a good state began at one
-  pub good_run : (ts : List Token) (s n : State) (rs : List Role) → Good n → run_of (reader_for g fs class) ts s ≡ (Some n, rs) → Good s
+  pub good_run : (ts : List Token) (s n : State) (rs : List Role) → Good n → run_of (reader_for g format fs class) ts s ≡ (Some n, rs) → Good s
   unfolding run_of
   good_run [] s n rs k e = subst Good (sym (same_Some s n (ap (λ (p : Run State). p.0) e))) k
-  good_run (t ∷ ts) s n rs k e = go (λ x r. good_run ts x n (run_of (reader_for g fs class) ts x).1 k r) (step_for g s.mode s t) refl e
+  good_run (t ∷ ts) s n rs k e = go (λ x r. good_run ts x n (run_of (reader_for g format fs class) ts x).1 k r) (step_for g s.mode s t) refl e
     where
-      go : ((x : State) → run_of (reader_for g fs class) ts x ≡ (Some n, (run_of (reader_for g fs class) ts x).1) → Good x) → (o : Option State) → step_for g s.mode s t ≡ o → then_run (run_of (reader_for g fs class) ts) (emitted s t) o ≡ (Some n, rs) → Good s
+      go : ((x : State) → run_of (reader_for g format fs class) ts x ≡ (Some n, (run_of (reader_for g format fs class) ts x).1) → Good x) → (o : Option State) → step_for g s.mode s t ≡ o → then_run (run_of (reader_for g format fs class) ts) (emitted s t) o ≡ (Some n, rs) → Good s
       go ih None goes e = absurd (none-some n (ap (λ (p : Run State). p.0) e))
-      go ih (Some x) goes e = f.back s x t goes (ih x (ap (λ (p : Run State). (p.0, (run_of (reader_for g fs class) ts x).1)) e))
+      go ih (Some x) goes e = f.back s x t goes (ih x (ap (λ (p : Run State). (p.0, (run_of (reader_for g format fs class) ts x).1)) e))
 
   -- and is the second machine's
-  pub same_run : (ts : List Token) (s n : State) (rs : List Role) → Here s → Good n → run_of (reader_for g fs class) ts s ≡ (Some n, rs) → run_of (reader_for h fs2 class2) ts s ≡ (Some n, rs)
+  pub same_run : (ts : List Token) (s n : State) (rs : List Role) → Here s → Good n → run_of (reader_for g format fs class) ts s ≡ (Some n, rs) → run_of (reader_for h format2 fs2 class2) ts s ≡ (Some n, rs)
   unfolding run_of
   same_run [] s n rs here k e = e
-  same_run (t ∷ ts) s n rs here k e = go (λ x j r. same_run ts x n (run_of (reader_for g fs class) ts x).1 j k r) (step_for g s.mode s t) refl e
+  same_run (t ∷ ts) s n rs here k e = go (λ x j r. same_run ts x n (run_of (reader_for g format fs class) ts x).1 j k r) (step_for g s.mode s t) refl e
     where
-      go : ((x : State) → Here x → run_of (reader_for g fs class) ts x ≡ (Some n, (run_of (reader_for g fs class) ts x).1) → run_of (reader_for h fs2 class2) ts x ≡ (Some n, (run_of (reader_for g fs class) ts x).1))
-          → (o : Option State) → step_for g s.mode s t ≡ o → then_run (run_of (reader_for g fs class) ts) (emitted s t) o ≡ (Some n, rs) → then_run (run_of (reader_for h fs2 class2) ts) (emitted s t) (step_for h s.mode s t) ≡ (Some n, rs)
+      go : ((x : State) → Here x → run_of (reader_for g format fs class) ts x ≡ (Some n, (run_of (reader_for g format fs class) ts x).1) → run_of (reader_for h format2 fs2 class2) ts x ≡ (Some n, (run_of (reader_for g format fs class) ts x).1))
+          → (o : Option State) → step_for g s.mode s t ≡ o → then_run (run_of (reader_for g format fs class) ts) (emitted s t) o ≡ (Some n, rs) → then_run (run_of (reader_for h format2 fs2 class2) ts) (emitted s t) (step_for h s.mode s t) ≡ (Some n, rs)
       go ih None goes e = absurd (none-some n (ap (λ (p : Run State). p.0) e))
       go ih (Some x) goes e =
-          let r : run_of (reader_for g fs class) ts x ≡ (Some n, (run_of (reader_for g fs class) ts x).1) = ap (λ (p : Run State). (p.0, (run_of (reader_for g fs class) ts x).1)) e in
-          let all : emitted s t ++ (run_of (reader_for g fs class) ts x).1 ≡ rs = ap (λ (p : Run State). p.1) e in
-          ap (then_run (run_of (reader_for h fs2 class2) ts) (emitted s t)) (f.same s x t here (good_run ts x n (run_of (reader_for g fs class) ts x).1 k r) goes)
+          let r : run_of (reader_for g format fs class) ts x ≡ (Some n, (run_of (reader_for g format fs class) ts x).1) = ap (λ (p : Run State). (p.0, (run_of (reader_for g format fs class) ts x).1)) e in
+          let all : emitted s t ++ (run_of (reader_for g format fs class) ts x).1 ≡ rs = ap (λ (p : Run State). p.1) e in
+          ap (then_run (run_of (reader_for h format2 fs2 class2) ts) (emitted s t)) (f.same s x t here (good_run ts x n (run_of (reader_for g format fs class) ts x).1 k r) goes)
           ∙ ap (λ (p : Run State). (p.0, emitted s t ++ p.1)) (ih x (f.onwards s x t here goes) r)
           ∙ ap (λ (q : List Role). (Some n, q)) all
 
@@ -107,13 +108,14 @@ behind_methods false = 6
 -- the region of a mode, where there are no methods yet or some
 abbrev pub region : Mode → Bool → ℕ
 region Begin b = 0
+region AfterFormat b = 0
 region AfterFeatures b = 0
 region AfterFeature b = 0
 region AfterFeatureComma b = 0
 region Start b = 0
 region InConstraint b = 0
 region BetweenClasses b = 1
-region (AfterAt n) b = region_of_node n
+region (AfterAt n off) b = region_of_node n
 region (AfterMark n) b = region_of_node n
 region AfterMarkedType b = 3
 region AfterClass b = 2
@@ -189,10 +191,11 @@ later_expression s e (Some n) = by (expression.expression n)
     by (Some x) = kept refl (some_methods s.methods _)
 
 later : (m : Mode) (s : State) (t : Token) → Later (region m (none_yet s.methods)) s.classes (step_in m (record s { mode = m }) t)
-later Begin s (Id w) = later_either (bytes_eq w features_word) 0 s.classes (record s { mode = AfterFeatures }) (opens_constraint s w) (kept refl refl) (later_if (bytes_eq w constraint_word) 0 s.classes (record s { mode = InConstraint }) (kept refl refl))
+later Begin s (Id w) = later_either (opens_format s w) 0 s.classes (record s { mode = AfterFormat }) (if bytes_eq w features_word then to AfterFeatures s else opens_constraint s w) (kept refl refl) (later_either (bytes_eq w features_word) 0 s.classes (record s { mode = AfterFeatures }) (opens_constraint s w) (kept refl refl) (later_if (bytes_eq w constraint_word) 0 s.classes (record s { mode = InConstraint }) (kept refl refl)))
 later Begin s At = kept refl refl
 later Begin s ClassWord = kept refl refl
 later Begin s End = kept refl refl
+later AfterFormat s Semicolon = kept refl refl
 later AfterFeatures s (Id w) = kept refl refl
 later AfterFeature s Comma = kept refl refl
 later AfterFeature s Semicolon = kept refl refl
@@ -205,13 +208,27 @@ later InConstraint s t = later_formula (record s { mode = InConstraint }) refl (
 later BetweenClasses s At = kept refl refl
 later BetweenClasses s ClassWord = kept refl refl
 later BetweenClasses s End = kept refl refl
-later (AfterAt node.Class) s (Id w) = kept refl refl
-later (AfterAt node.Member) s (Id w) = kept refl refl
-later (AfterAt node.Method) s (Id w) = kept refl refl
-later (AfterAt (node.Param owner.Constructor)) s (Id w) = kept refl refl
-later (AfterAt (node.Param owner.Method)) s (Id w) = kept refl refl
-later (AfterAt node.Send) s (Id w) = kept refl refl
-later (AfterAt node.Assign) s (Id w) = kept refl refl
+later (AfterAt node.Class off) s (Id w) = kept refl refl
+later (AfterAt node.Class false) s Bang = kept refl refl
+later (AfterAt node.Class true) s Bang = tt
+later (AfterAt node.Member off) s (Id w) = kept refl refl
+later (AfterAt node.Member false) s Bang = kept refl refl
+later (AfterAt node.Member true) s Bang = tt
+later (AfterAt node.Method off) s (Id w) = kept refl refl
+later (AfterAt node.Method false) s Bang = kept refl refl
+later (AfterAt node.Method true) s Bang = tt
+later (AfterAt (node.Param owner.Constructor) off) s (Id w) = kept refl refl
+later (AfterAt (node.Param owner.Constructor) false) s Bang = kept refl refl
+later (AfterAt (node.Param owner.Constructor) true) s Bang = tt
+later (AfterAt (node.Param owner.Method) off) s (Id w) = kept refl refl
+later (AfterAt (node.Param owner.Method) false) s Bang = kept refl refl
+later (AfterAt (node.Param owner.Method) true) s Bang = tt
+later (AfterAt node.Send off) s (Id w) = kept refl refl
+later (AfterAt node.Send false) s Bang = kept refl refl
+later (AfterAt node.Send true) s Bang = tt
+later (AfterAt node.Assign off) s (Id w) = kept refl refl
+later (AfterAt node.Assign false) s Bang = kept refl refl
+later (AfterAt node.Assign true) s Bang = tt
 later (AfterMark node.Class) s At = kept refl refl
 later (AfterMark node.Class) s ClassWord = kept refl refl
 later (AfterMark node.Member) s At = kept refl refl

@@ -1,15 +1,18 @@
 -- What follows a tree's tokens, or its roles, stands behind them.
-use Rattle.std.proofs.Common.{◌≡◌, true, List, [], ◌∷◌, ◌++◌, ℕ, ◌+◌, refl, sym, ap, ◌∙◌}
-use Rattle.cfj_words.specs.Tokens.{Token, Id, ClassWord, ExtendsWord, SuperWord, ThisWord, ReturnWord, OpenBrace, CloseBrace, OpenParen, CloseParen, Semicolon, Comma, Dot, Equals}
-use Rattle.cfj_model.specs.Grammar.{Declared, Named, MethodTree, ClassTree, Tree, constraint_word, features_word, spell_name, spell_features, spell_field, spell_param, spell_sent, spell_assign, spell_ctor, spell_method, spell_constraint, spell_class, spell}
+use Rattle.std.proofs.Common.{◌≡◌, Bool, true, false, List, [], ◌∷◌, ◌++◌, ℕ, ◌+◌, refl, sym, ap, ◌∙◌}
+use Rattle.cfj_words.specs.Tokens.{Token, Id, ClassWord, ExtendsWord, SuperWord, ThisWord, ReturnWord, OpenBrace, CloseBrace, OpenParen, CloseParen, Semicolon, Comma, Dot, Equals, At}
+use Rattle.cfj_model.specs.Grammar.{Declared, Named, MethodTree, ClassTree, Tree, constraint_word, features_word, spell_name, spell_format, spell_features, spell_field, spell_param, spell_sent, spell_assign, spell_ctor, spell_method, spell_constraint, spell_class, spell}
+use Rattle.cfj_model.specs.declared.feature_model.Format.{Format}
+use Rattle.cfj_model.specs.declared.feature_model.Format.TheVariants.{One, Two}
+use Rattle.cfj_model.specs.declared.signed.Signed.{Signed}
 use Rattle.cfj_model.specs.Languages.{projects, single_classes}
 use Rattle.cfj_model.specs.ExpressionGrammar.{spell_expr, roles_expr}
 use Rattle.cfj_model.specs.FormulaGrammar.{IffTree, one_implies, iff, ImpliesTree, one_or, implies, OrTree, one_and, or, AndTree, one_unary, and, UnaryTree, negated, named, true_word, false_word, bracketed, roles_iff, roles_implies, roles_or, roles_and, roles_unary}
 use Rattle.formula_reader.proofs.Texts.{spell_iff_append, roles_iff_append}
 use Rattle.expression_reader.proofs.Composing as expression
-use Rattle.cfj_model.specs.Marks.{in_order, each_behind, separated, spell_mark, spell_marks, roles_mark, roles_marks}
-use Rattle.cfj_model.specs.Roles.{Role, feature_name, class_name, field_name, method_name, param_name, method_param_name, sent_name, assigned_name, used_name, formula_node, formula_opens, other_token, are_settled}
-use Rattle.cfj_model.specs.TreeRoles.{roles_feature, roles_features, roles_field, roles_param, roles_method_param, roles_sent, roles_assign, roles_ctor, roles_method, roles_constraint, roles_class, roles}
+use Rattle.cfj_model.specs.Marks.{in_order, each_behind, separated, spell_sign, spell_mark, spell_marks, roles_sign, roles_mark, roles_marks}
+use Rattle.cfj_model.specs.Roles.{Role, mark_name, feature_name, class_name, field_name, method_name, param_name, method_param_name, sent_name, assigned_name, used_name, formula_node, formula_opens, other_token, are_settled}
+use Rattle.cfj_model.specs.TreeRoles.{roles_format, roles_feature, roles_features, roles_field, roles_param, roles_method_param, roles_sent, roles_assign, roles_ctor, roles_method, roles_constraint, roles_class, roles}
 use Rattle.fj_parser.specs.Laws.{IsPlainLanguage}
 
 -- ---- lists of parts
@@ -36,8 +39,16 @@ features_before : (fs : List (List ℕ)) (a b : List Token) → spell_features f
 features_before [] a b = refl
 features_before (f ∷ fs) a b = ap (λ ts. Id features_word ∷ (Id f ∷ ts)) (each_behind_before Comma spell_name (λ w x y. refl) fs (Semicolon ∷ a) b)
 
-marks_before : (ms : List (List ℕ)) (a b : List Token) → spell_marks ms (a ++ b) ≡ spell_marks ms a ++ b
-marks_before = in_order_before spell_mark (λ m a b. refl)
+format_before : (format : Format) (a b : List Token) → spell_format format (a ++ b) ≡ spell_format format a ++ b
+format_before One a b = refl
+format_before Two a b = refl
+
+sign_before : (off : Bool) (a b : List Token) → spell_sign off (a ++ b) ≡ spell_sign off a ++ b
+sign_before false a b = refl
+sign_before true a b = refl
+
+marks_before : (ms : List Signed) (a b : List Token) → spell_marks ms (a ++ b) ≡ spell_marks ms a ++ b
+marks_before = in_order_before spell_mark (λ m a b. ap (λ ts. At ∷ ts) (sign_before m.off (Id m.name ∷ a) b))
 
 pub field_before : (d : Declared) (a b : List Token) → spell_field d (a ++ b) ≡ spell_field d a ++ b
 field_before d a b = marks_before d.marks (Id d.of ∷ (Id d.name ∷ (Semicolon ∷ a))) b
@@ -113,9 +124,11 @@ constraint_before x a b = ap (λ ts. Id constraint_word ∷ ts) (sym (spell_iff_
 spell_before : (x : Tree) (a b : List Token) → spell x (a ++ b) ≡ spell x a ++ b
 spell_before x a b =
     let constraints : List Token → List Token = in_order spell_constraint x.constraints in
-    ap (λ ts. spell_features x.features (constraints ts)) (in_order_before spell_class class_before x.classes a b)
+    ap (spell_format x.format)
+    (ap (λ ts. spell_features x.features (constraints ts)) (in_order_before spell_class class_before x.classes a b)
     ∙ ap (spell_features x.features) (in_order_before spell_constraint constraint_before x.constraints (in_order spell_class x.classes a) b)
-    ∙ features_before x.features (constraints (in_order spell_class x.classes a)) b
+    ∙ features_before x.features (constraints (in_order spell_class x.classes a)) b)
+    ∙ format_before x.format (spell_features x.features (constraints (in_order spell_class x.classes a))) b
 
 -- ---- roles
 
@@ -123,8 +136,16 @@ feature_roles_before : (fs : List (List ℕ)) (a b : List Role) → roles_featur
 feature_roles_before [] a b = refl
 feature_roles_before (f ∷ fs) a b = ap (λ rs. used_name features_word ∷ (feature_name f ∷ rs)) (each_behind_before other_token roles_feature (λ w x y. refl) fs (other_token ∷ a) b)
 
-pub mark_roles_before : (ms : List (List ℕ)) (a b : List Role) → roles_marks ms (a ++ b) ≡ roles_marks ms a ++ b
-mark_roles_before = in_order_before roles_mark (λ m a b. refl)
+format_roles_before : (format : Format) (a b : List Role) → roles_format format (a ++ b) ≡ roles_format format a ++ b
+format_roles_before One a b = refl
+format_roles_before Two a b = refl
+
+sign_roles_before : (off : Bool) (a b : List Role) → roles_sign off (a ++ b) ≡ roles_sign off a ++ b
+sign_roles_before false a b = refl
+sign_roles_before true a b = refl
+
+pub mark_roles_before : (ms : List Signed) (a b : List Role) → roles_marks ms (a ++ b) ≡ roles_marks ms a ++ b
+mark_roles_before = in_order_before roles_mark (λ m a b. ap (λ rs. other_token ∷ rs) (sign_roles_before m.off (mark_name m.name ∷ a) b))
 
 pub field_roles_before : (d : Declared) (a b : List Role) → roles_field d (a ++ b) ≡ roles_field d a ++ b
 field_roles_before d a b = mark_roles_before d.marks (used_name d.of ∷ (field_name d.name ∷ (other_token ∷ a))) b
@@ -195,9 +216,11 @@ constraint_roles_before x a b = ap (λ rs. used_name constraint_word ∷ rs) (sy
 roles_before : (x : Tree) (a b : List Role) → roles x (a ++ b) ≡ roles x a ++ b
 roles_before x a b =
     let constraints : List Role → List Role = in_order roles_constraint x.constraints in
-    ap (λ rs. roles_features x.features (constraints rs)) (in_order_before roles_class class_roles_before x.classes a b)
+    ap (roles_format x.format)
+    (ap (λ rs. roles_features x.features (constraints rs)) (in_order_before roles_class class_roles_before x.classes a b)
     ∙ ap (roles_features x.features) (in_order_before roles_constraint constraint_roles_before x.constraints (in_order roles_class x.classes a) b)
-    ∙ feature_roles_before x.features (constraints (in_order roles_class x.classes a)) b
+    ∙ feature_roles_before x.features (constraints (in_order roles_class x.classes a)) b)
+    ∙ format_roles_before x.format (roles_features x.features (constraints (in_order roles_class x.classes a))) b
 
 -- ---- settled roles
 
@@ -221,8 +244,16 @@ features_settled : (fs : List (List ℕ)) (rest : List Role) → are_settled res
 features_settled [] rest e = e
 features_settled (f ∷ fs) rest e = each_behind_settled roles_feature (λ w rs r. r) fs (other_token ∷ rest) e
 
-pub marks_settled : (ms : List (List ℕ)) (rest : List Role) → are_settled rest ≡ true → are_settled (roles_marks ms rest) ≡ true
-marks_settled = in_order_settled roles_mark (λ m rs r. r)
+format_settled : (format : Format) (rest : List Role) → are_settled rest ≡ true → are_settled (roles_format format rest) ≡ true
+format_settled One rest e = e
+format_settled Two rest e = e
+
+sign_settled : (off : Bool) (rest : List Role) → are_settled rest ≡ true → are_settled (roles_sign off rest) ≡ true
+sign_settled false rest e = e
+sign_settled true rest e = e
+
+pub marks_settled : (ms : List Signed) (rest : List Role) → are_settled rest ≡ true → are_settled (roles_marks ms rest) ≡ true
+marks_settled = in_order_settled roles_mark (λ m rs r. sign_settled m.off (mark_name m.name ∷ rs) r)
 
 pub field_settled : (d : Declared) (rest : List Role) → are_settled rest ≡ true → are_settled (roles_field d rest) ≡ true
 field_settled d rest e = marks_settled d.marks (used_name d.of ∷ (field_name d.name ∷ (other_token ∷ rest))) e
@@ -287,12 +318,13 @@ constraint_settled x rest e = iff_settled 0 x (other_token ∷ rest) ∙ e
 -- A tree's roles are settled.
 roles_settled : (x : Tree) → are_settled (roles x []) ≡ true
 roles_settled x =
-    features_settled x.features (in_order roles_constraint x.constraints (in_order roles_class x.classes []))
-    (in_order_settled roles_constraint constraint_settled x.constraints (in_order roles_class x.classes []) (in_order_settled roles_class class_settled x.classes [] refl))
+    format_settled x.format (roles_features x.features (in_order roles_constraint x.constraints (in_order roles_class x.classes [])))
+    (features_settled x.features (in_order roles_constraint x.constraints (in_order roles_class x.classes []))
+    (in_order_settled roles_constraint constraint_settled x.constraints (in_order roles_class x.classes []) (in_order_settled roles_class class_settled x.classes [] refl)))
 
 pub grammar_is_plain : IsPlainLanguage projects
 grammar_is_plain = record { spells = spell_before; gives = roles_before; settled = roles_settled }
 
 -- The same holds of single classes.
-pub class_grammar_is_plain : (features : List (List ℕ)) → IsPlainLanguage (single_classes features)
-class_grammar_is_plain features = record { spells = class_before; gives = class_roles_before; settled = λ k. class_settled k [] refl }
+pub class_grammar_is_plain : (format : Format) (features : List (List ℕ)) → IsPlainLanguage (single_classes format features)
+class_grammar_is_plain format features = record { spells = class_before; gives = class_roles_before; settled = λ k. class_settled k [] refl }

@@ -6,9 +6,9 @@ use Rattle.std.proofs.lemmas.Option.{none-some, same_Some}
 use Rattle.std.specs.Str.{bytes_eq}
 use Rattle.cfj_model.specs.declared.expr.Expr.{Expr}
 use Rattle.cfj_logic.specs.declared.formula.Formula.{Formula}
-use Rattle.cfj_model.specs.Grammar.{constraint_word, features_word}
+use Rattle.cfj_model.specs.Grammar.{constraint_word, features_word, format_word}
 use Rattle.cfj_words.specs.Tokens.{Token, Id, TrueWord, FalseWord, Bang, Ampersand, Bar, Arrow, DoubleArrow, ClassWord, ExtendsWord, SuperWord, ThisWord, ReturnWord, OpenBrace, CloseBrace, OpenParen, CloseParen, Semicolon, Comma, Dot, Equals, At, End}
-use Rattle.cfj_model.specs.Roles.{Role, casts, is_settled, are_settled}
+use Rattle.cfj_model.specs.Roles.{Role, casts, format_line, used_name, is_settled, are_settled}
 use Rattle.formula_reader.specs.Machine as formula
 use Rattle.expression_reader.specs.Machine as expression
 use Rattle.expression_reader.specs.declared.mode.Mode as expression_mode
@@ -18,8 +18,8 @@ use Rattle.expression_reader.proofs.Law as expression_law
 use Rattle.fj_machine.specs.declared.mode.Owner.TheVariants as owner
 use Rattle.fj_machine.specs.declared.mode.Node.TheVariants as node
 use Rattle.fj_machine.specs.declared.mode.Mode.{Mode}
-use Rattle.fj_machine.specs.declared.mode.Mode.TheVariants.{Begin, AfterFeatures, AfterFeature, AfterFeatureComma, Start, InConstraint, BetweenClasses, AfterAt, AfterMark, AfterMarkedType, AfterClass, AfterClassName, AfterExtends, AfterParent, InMembers, AfterType, AfterFieldName, InParams, AfterParamComma, AfterParamType, AfterParam, AfterParams, InBody, AfterSuper, InSends, AfterSendComma, AfterSend, AfterSends, InAssigns, AfterThis, AfterThisDot, AfterAssigned, AfterEquals, AfterSecondName, InMethods, AfterResult, AfterMethodName, InMethodBody, InExpression, AfterBody}
-use Rattle.fj_machine.specs.Machine.{unnamed, State, start, with_method, after_formula, in_formula, after_expression, in_expression, opens_constraint, step_in, step, token_role, role_in, pending_in, pending, settles_in, waits_in, emitted, run}
+use Rattle.fj_machine.specs.declared.mode.Mode.TheVariants.{Begin, AfterFormat, AfterFeatures, AfterFeature, AfterFeatureComma, Start, InConstraint, BetweenClasses, AfterAt, AfterMark, AfterMarkedType, AfterClass, AfterClassName, AfterExtends, AfterParent, InMembers, AfterType, AfterFieldName, InParams, AfterParamComma, AfterParamType, AfterParam, AfterParams, InBody, AfterSuper, InSends, AfterSendComma, AfterSend, AfterSends, InAssigns, AfterThis, AfterThisDot, AfterAssigned, AfterEquals, AfterSecondName, InMethods, AfterResult, AfterMethodName, InMethodBody, InExpression, AfterBody}
+use Rattle.fj_machine.specs.Machine.{unnamed, State, start, with_method, after_formula, in_formula, after_expression, in_expression, opens_constraint, opens_format, to, step_in, step, token_role, role_in, pending_in, pending, settles_in, waits_in, emitted, run}
 use Rattle.fj_machine.specs.Readers.{Run, then_run, run_of}
 use Rattle.fj_parser.proofs.ListsSound.{never}
 use Rattle.fj_parser.proofs.Sound.{none_undone}
@@ -48,10 +48,11 @@ alike_either false s n o h k = k
 alike_step : (m : Mode) (s : State) (t : Token) → is_declaring m ≡ true → Alike s (step_in m s t)
 alike_step InConstraint s t e = never e
 alike_step InExpression s t e = never e
-alike_step Begin s (Id w) e = alike_either (bytes_eq w features_word) s (record s { mode = AfterFeatures }) (opens_constraint s w) (refl, refl) (alike_if (bytes_eq w constraint_word) s (record s { mode = InConstraint }) (refl, refl))
+alike_step Begin s (Id w) e = alike_either (opens_format s w) s (record s { mode = AfterFormat }) (if bytes_eq w features_word then to AfterFeatures s else opens_constraint s w) (refl, refl) (alike_either (bytes_eq w features_word) s (record s { mode = AfterFeatures }) (opens_constraint s w) (refl, refl) (alike_if (bytes_eq w constraint_word) s (record s { mode = InConstraint }) (refl, refl)))
 alike_step Begin s At e = (refl, refl)
 alike_step Begin s ClassWord e = (refl, refl)
 alike_step Begin s End e = (refl, refl)
+alike_step AfterFormat s Semicolon e = (refl, refl)
 alike_step AfterFeatures s (Id w) e = (refl, refl)
 alike_step AfterFeature s Comma e = (refl, refl)
 alike_step AfterFeature s Semicolon e = (refl, refl)
@@ -63,7 +64,9 @@ alike_step Start s End e = (refl, refl)
 alike_step BetweenClasses s At e = (refl, refl)
 alike_step BetweenClasses s ClassWord e = (refl, refl)
 alike_step BetweenClasses s End e = (refl, refl)
-alike_step (AfterAt n) s (Id w) e = (refl, refl)
+alike_step (AfterAt n off) s (Id w) e = (refl, refl)
+alike_step (AfterAt n false) s Bang e = (refl, refl)
+alike_step (AfterAt n true) s Bang e = tt
 alike_step (AfterMark node.Class) s At e = (refl, refl)
 alike_step (AfterMark node.Class) s ClassWord e = (refl, refl)
 alike_step (AfterMark node.Member) s At e = (refl, refl)
@@ -153,7 +156,13 @@ settled_append (r ∷ a) b h k =
     and_from (is_settled r (a ++ b)) (are_settled (a ++ b)) (still_settled r a b p.0) (settled_append a b p.1 k)
 
 -- a token outside of expressions is no cast's
+-- the word of a line
+line_settled : (b : Bool) (w : List ℕ) → are_settled ((if b then format_line else used_name w) ∷ []) ≡ true
+line_settled true w = refl
+line_settled false w = refl
+
 name_settled : (m : Mode) (w : List ℕ) → are_settled (token_role m (Id w) ∷ []) ≡ true
+name_settled Begin w = line_settled (bytes_eq w format_word) w
 name_settled (AfterMark node.Class) w = refl
 name_settled (AfterMark node.Member) w = refl
 name_settled (AfterMark node.Method) w = refl

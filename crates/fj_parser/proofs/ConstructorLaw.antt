@@ -11,6 +11,7 @@ use Rattle.cfj_words.specs.Tokens.{Token, Id, OpenParen, CloseBrace, End}
 use Rattle.cfj_model.specs.TreeRoles.{roles_ctor}
 use Rattle.fj_symbols.specs.Views.{are_read}
 use Rattle.cfj_model.specs.PartLanguages.{CtorTree, in_class, constructors}
+use Rattle.cfj_model.specs.declared.feature_model.Format.{Format}
 use Rattle.fj_parser.specs.Laws.{Closes, GoesByName, IsPlainLanguage, Reads}
 use Rattle.fj_parser.specs.declared.goal.Goal.TheVariants as goal
 use Rattle.fj_machine.specs.declared.mode.Mode.{Mode}
@@ -33,8 +34,8 @@ use Rattle.fj_parser.proofs.Spelled.{ctor_before, ctor_roles_before, ctor_settle
 use Rattle.fj_parser.proofs.Standing.{Stands, stands_run, settled_append, waiting_settled, each_once}
 
 -- what follows a constructor stands behind it, and its roles are settled
-pub ctor_grammar_is_plain : (features : List (List ℕ)) (class : List ℕ) → IsPlainLanguage (constructors features class)
-ctor_grammar_is_plain features class =
+pub ctor_grammar_is_plain : (format : Format) (features : List (List ℕ)) (class : List ℕ) → IsPlainLanguage (constructors format features class)
+ctor_grammar_is_plain format features class =
     record { spells = λ c a b. ctor_before (in_class class c) a b; gives = λ c a b. ctor_roles_before (in_class class c) a b; settled = λ c. ctor_settled (in_class class c) [] refl }
 
 -- a list and one more item begins with another, before some
@@ -60,20 +61,20 @@ none_left : (s : State) → s.mode ≡ InMethods → Accepts [] s → ⊥
 unfolding run_of
 none_left s here h = never (sym (ap is_whole_in here) ∙ h)
 
-module _ (features : List (List ℕ)) (class : List ℕ) where
+module _ (format : Format) (features : List (List ℕ)) (class : List ℕ) where
   -- ---- the text of each constructor is read
 
   -- behind a constructor and the end
   abbrev pub ctor_ended : CtorTree → State
-  ctor_ended c = record (behind_one features class c) { mode = AtEnd }
+  ctor_ended c = record (behind_one format features class c) { mode = AtEnd }
 
-  end_run : (c : CtorTree) → run_of (ctor_reader features class) (End ∷ []) (behind_one features class c) ≡ (Some (ctor_ended c), other_token ∷ [])
+  end_run : (c : CtorTree) → run_of (ctor_reader format features class) (End ∷ []) (behind_one format features class c) ≡ (Some (ctor_ended c), other_token ∷ [])
   unfolding run_of
   end_run c = refl
 
-  ctor_text_runs : (c : CtorTree) → run_of (ctor_reader features class) (spell_ctor (in_class class c) (End ∷ [])) (before_ctor features class) ≡ (Some (ctor_ended c), roles_ctor (in_class class c) (other_token ∷ []))
+  ctor_text_runs : (c : CtorTree) → run_of (ctor_reader format features class) (spell_ctor (in_class class c) (End ∷ [])) (before_ctor format features class) ≡ (Some (ctor_ended c), roles_ctor (in_class class c) (other_token ∷ []))
   ctor_text_runs c =
-      ctor_runs features class c (End ∷ [])
+      ctor_runs format features class c (End ∷ [])
       ∙ ap (with_roles (roles_ctor (in_class class c) [])) (end_run c)
       ∙ ap (λ (q : List Role). (Some (ctor_ended c), q)) (sym (ctor_roles_before (in_class class c) [] (other_token ∷ [])))
 
@@ -86,26 +87,26 @@ module _ (features : List (List ℕ)) (class : List ℕ) where
 
   -- what stands behind the first two tokens
   abbrev Words : List Token → Type 0
-  Words ts = (us : List Token) × (ts ≡ Id class ∷ (OpenParen ∷ us)) × Reaches InMethods (reached_by features class us (in_ctor features class))
+  Words ts = (us : List Token) × (ts ≡ Id class ∷ (OpenParen ∷ us)) × Reaches InMethods (reached_by format features class us (in_ctor format features class))
 
-  name_read : (w : List ℕ) (ts : List Token) → w ≡ class → Reaches InMethods (reached_by features class ts (record (before_ctor features class) { mode = AfterType; of = w })) → Words (Id w ∷ ts)
+  name_read : (w : List ℕ) (ts : List Token) → w ≡ class → Reaches InMethods (reached_by format features class ts (record (before_ctor format features class) { mode = AfterType; of = w })) → Words (Id w ∷ ts)
   unfolding run_of
   name_read w [] is h = absurd (let no : ⊥ = cc h in no)
   name_read w (OpenParen ∷ us) is h =
-      let p = passed (bytes_eq w class) (run_of (ctor_reader features class) us) (other_token ∷ []) (in_ctor features class) h in
+      let p = passed (bytes_eq w class) (run_of (ctor_reader format features class) us) (other_token ∷ []) (in_ctor format features class) h in
       (us, ap (λ x. Id x ∷ (OpenParen ∷ us)) is, p.1)
   name_read w _ is h = absurd h
 
-  head_read : (ts : List Token) → Reaches InMethods (reached_by features class ts (before_ctor features class)) → Words ts
+  head_read : (ts : List Token) → Reaches InMethods (reached_by format features class ts (before_ctor format features class)) → Words ts
   unfolding run_of
   head_read [] h = absurd (let no : ⊥ = cc h in no)
   head_read (Id w ∷ ts) h =
-      let p = passed (bytes_eq w class) (run_of (ctor_reader features class) ts) (used_name w ∷ []) (record (before_ctor features class) { mode = AfterType; of = w }) h in
+      let p = passed (bytes_eq w class) (run_of (ctor_reader format features class) ts) (used_name w ∷ []) (record (before_ctor format features class) { mode = AfterType; of = w }) h in
       name_read w ts ((bytes_eq-Decides w class).0 p.0) p.1
   head_read _ h = absurd h
 
   -- behind a constructor only the end stands
-  nothing_behind : (c : CtorTree) (v : List Token) → Reaches InMethods (reached_by features class v (behind_one features class c)) → v ≡ []
+  nothing_behind : (c : CtorTree) (v : List Token) → Reaches InMethods (reached_by format features class v (behind_one format features class c)) → v ≡ []
   unfolding run_of
   nothing_behind c [] h = refl
   nothing_behind c (End ∷ []) h = absurd (let no : ⊥ = cc h in no)
@@ -116,31 +117,31 @@ module _ (features : List (List ℕ)) (class : List ℕ) where
   tree_of c = record { params = c.params; sends = c.sends; assigns = c.assigns }
 
   -- tokens that lead behind a constructor
-  whole_text : (ts : List Token) → Reaches InMethods (reached_by features class ts (before_ctor features class)) → (c : CtorTree) × (ts ≡ spell_ctor (in_class class c) [])
+  whole_text : (ts : List Token) → Reaches InMethods (reached_by format features class ts (before_ctor format features class)) → (c : CtorTree) × (ts ≡ spell_ctor (in_class class c) [])
   unfolding tree_of
   whole_text ts h = of_words (head_read ts h)
     where
-      accepted : (us : List Token) (p : Run State) → run_of (ctor_reader features class) us (in_ctor features class) ≡ p → Reaches InMethods p.0 → Accepts (us ++ CloseBrace ∷ []) (in_ctor features class)
+      accepted : (us : List Token) (p : Run State) → run_of (ctor_reader format features class) us (in_ctor format features class) ≡ p → Reaches InMethods p.0 → Accepts (us ++ CloseBrace ∷ []) (in_ctor format features class)
       accepted us (None, rs) ran r = absurd r
       accepted us (Some m, rs) ran r =
-          let ours : run us (in_ctor features class) ≡ (Some m, rs) = narrow_run features class us (in_ctor features class) m rs (ap is_end r) ran in
-          ap (λ (p : Run State). is_whole p.0) (run_append reader us (CloseBrace ∷ []) (in_ctor features class) ∙ ap (on_from reader (CloseBrace ∷ [])) ours) ∙ class_follows m r
+          let ours : run us (in_ctor format features class) ≡ (Some m, rs) = narrow_run format features class us (in_ctor format features class) m rs (ap is_end r) ran in
+          ap (λ (p : Run State). is_whole p.0) (run_append reader us (CloseBrace ∷ []) (in_ctor format features class) ∙ ap (on_from reader (CloseBrace ∷ [])) ours) ∙ class_follows m r
 
       of_tokens : (c : CtorTree) (rest : List Token) → ts ++ CloseBrace ∷ [] ≡ spell_ctor (in_class class c) rest → (rest ≡ [] → ⊥) → (c : CtorTree) × (ts ≡ spell_ctor (in_class class c) [])
       of_tokens c [] is some = absurd (some refl)
       of_tokens c (r ∷ rs) is some =
           let v = ends_in ts (spell_ctor (in_class class c) []) CloseBrace r rs (is ∙ ctor_before (in_class class c) [] (r ∷ rs)) in
           let text : ts ≡ spell_ctor (in_class class c) v.0 = v.1 ∙ sym (ctor_before (in_class class c) [] v.0) in
-          let none : v.0 ≡ [] = nothing_behind c v.0 (subst (Reaches InMethods) (ap (λ w. reached_by features class w (before_ctor features class)) text ∙ ap (λ (p : Run State). p.0) (ctor_runs features class c v.0)) h) in
+          let none : v.0 ≡ [] = nothing_behind c v.0 (subst (Reaches InMethods) (ap (λ w. reached_by format features class w (before_ctor format features class)) text ∙ ap (λ (p : Run State). p.0) (ctor_runs format features class c v.0)) h) in
           (c, text ∙ ap (spell_ctor (in_class class c)) none)
 
-      of_read : (us : List Token) → ts ≡ Id class ∷ (OpenParen ∷ us) → Read members.CtorTree ctor_rest (behind_this (in_ctor features class)) (us ++ CloseBrace ∷ []) → (c : CtorTree) × (ts ≡ spell_ctor (in_class class c) [])
+      of_read : (us : List Token) → ts ≡ Id class ∷ (OpenParen ∷ us) → Read members.CtorTree ctor_rest (behind_this (in_ctor format features class)) (us ++ CloseBrace ∷ []) → (c : CtorTree) × (ts ≡ spell_ctor (in_class class c) [])
       of_read us is r =
-          of_tokens (tree_of r.part) r.rest (ap (λ w. w ++ CloseBrace ∷ []) is ∙ ap (λ w. Id class ∷ (OpenParen ∷ w)) r.spelled) (λ e. none_left (behind_this (in_ctor features class) r.part) refl (subst (λ w. Accepts w (behind_this (in_ctor features class) r.part)) e r.goes))
+          of_tokens (tree_of r.part) r.rest (ap (λ w. w ++ CloseBrace ∷ []) is ∙ ap (λ w. Id class ∷ (OpenParen ∷ w)) r.spelled) (λ e. none_left (behind_this (in_ctor format features class) r.part) refl (subst (λ w. Accepts w (behind_this (in_ctor format features class) r.part)) e r.goes))
 
       of_words : Words ts → (c : CtorTree) × (ts ≡ spell_ctor (in_class class c) [])
       of_words (us, is, reaches) =
-          of_read us is (ctor_read (suc (length (us ++ CloseBrace ∷ []))) (us ++ CloseBrace ∷ []) (omega arith) (in_ctor features class) (accepted us (run_of (ctor_reader features class) us (in_ctor features class)) refl reaches))
+          of_read us is (ctor_read (suc (length (us ++ CloseBrace ∷ []))) (us ++ CloseBrace ∷ []) (omega arith) (in_ctor format features class) (accepted us (run_of (ctor_reader format features class) us (in_ctor format features class)) refl reaches))
 
   -- where the end may follow
   end_behind : (s n : State) → CtorStage class s → step_for goal.Constructor s.mode s End ≡ Some n → s.mode ≡ InMethods
@@ -158,15 +159,15 @@ module _ (features : List (List ℕ)) (class : List ℕ) where
   end_refuses m s n t is h = none-some n (ap (λ x. step_for goal.Constructor x.mode x t) (sym is) ∙ h)
 
   abbrev Ran : List Token → State → List Role → Type 0
-  Ran ts s rs = run_of (ctor_reader features class) ts (before_ctor features class) ≡ (Some s, rs)
+  Ran ts s rs = run_of (ctor_reader format features class) ts (before_ctor format features class) ≡ (Some s, rs)
 
-  stage_of : (ts : List Token) (s : State) (rs : List Role) → Ran ts s rs → Reached features class ts (before_ctor features class) s rs
-  stage_of ts s rs ran = reached_run features class ts (before_ctor features class) s rs (before_it refl refl) ran
+  stage_of : (ts : List Token) (s : State) (rs : List Role) → Ran ts s rs → Reached format features class ts (before_ctor format features class) s rs
+  stage_of ts s rs ran = reached_run format features class ts (before_ctor format features class) s rs (before_it refl refl) ran
 
   sound : (ts : List Token) (s n : State) (rs : List Role) → Ran ts s rs → step_for goal.Constructor s.mode s End ≡ Some n → (c : CtorTree) × (ts ≡ spell_ctor (in_class class c) [])
   sound ts s n rs ran h = by (stage_of ts s rs ran)
     where
-      by : Reached features class ts (before_ctor features class) s rs → (c : CtorTree) × (ts ≡ spell_ctor (in_class class c) [])
+      by : Reached format features class ts (before_ctor format features class) s rs → (c : CtorTree) × (ts ≡ spell_ctor (in_class class c) [])
       by (inside k) = whole_text ts (subst (λ (p : Run State). Reaches InMethods p.0) (sym ran) (end_behind s n k h))
       by (ended_by front m qs split first roles here is) = absurd (end_refuses m s n End is h)
 
@@ -174,7 +175,7 @@ module _ (features : List (List ℕ)) (class : List ℕ) where
 
   -- what is known of each state before the end
   stands : (ts : List Token) (s : State) (rs : List Role) → is_end s.mode ≡ false → Ran ts s rs → Stands s rs
-  stands ts s rs open_still ran = stands_run ts (before_ctor features class) s [] rs (record { formula_goes = refl; holds = record { settled = refl; none = refl } }) (narrow_run features class ts (before_ctor features class) s rs open_still ran)
+  stands ts s rs open_still ran = stands_run ts (before_ctor format features class) s [] rs (record { formula_goes = refl; holds = record { settled = refl; none = refl } }) (narrow_run format features class ts (before_ctor format features class) s rs open_still ran)
 
   -- no expression is in hand
   no_waiting : (s : State) → CtorStage class s → pending s ≡ []
@@ -188,7 +189,7 @@ module _ (features : List (List ℕ)) (class : List ℕ) where
   no_waiting s (behind_it here) = ap (λ m. pending_in m s) here
 
   -- where the end was read
-  closes_ended : (ts front : List Token) (s m : State) (rs qs : List Role) → Ran ts s rs → ts ≡ front ++ End ∷ [] → Ran front m qs → m.mode ≡ InMethods → s ≡ record m { mode = AtEnd } → Closes (constructors features class) ts rs (pending s)
+  closes_ended : (ts front : List Token) (s m : State) (rs qs : List Role) → Ran ts s rs → ts ≡ front ++ End ∷ [] → Ran front m qs → m.mode ≡ InMethods → s ≡ record m { mode = AtEnd } → Closes (constructors format features class) ts rs (pending s)
   closes_ended ts front s m rs qs ran split first here is =
       let c = whole_text front (subst (λ (p : Run State). Reaches InMethods p.0) (sym first) here) in
       let text : ts ≡ spell_ctor (in_class class c.0) (End ∷ []) = split ∙ ap (λ w. w ++ End ∷ []) c.1 ∙ sym (ctor_before (in_class class c.0) [] (End ∷ [])) in
@@ -198,30 +199,30 @@ module _ (features : List (List ℕ)) (class : List ℕ) where
         more = [];
         others = [];
         text = append-nil ts ∙ text;
-        in_roles = ap (λ (p : Run State). p.1) (sym (ctor_text_runs c.0) ∙ ap (λ w. run_of (ctor_reader features class) w (before_ctor features class)) (sym text) ∙ ran) ∙ sym (ap (λ q. rs ++ (q ++ [])) none ∙ append-nil rs);
+        in_roles = ap (λ (p : Run State). p.1) (sym (ctor_text_runs c.0) ∙ ap (λ w. run_of (ctor_reader format features class) w (before_ctor format features class)) (sym text) ∙ ran) ∙ sym (ap (λ q. rs ++ (q ++ [])) none ∙ append-nil rs);
       }
 
   -- and before it
-  closes_open : (ts : List Token) (s : State) (rs : List Role) → Ran ts s rs → CtorStage class s → Closes (constructors features class) ts rs (pending s)
+  closes_open : (ts : List Token) (s : State) (rs : List Role) → Ran ts s rs → CtorStage class s → Closes (constructors format features class) ts rs (pending s)
   closes_open ts s rs ran k =
-      let e = stage_closes features class s k in
-      let on : run_of (ctor_reader features class) (ts ++ e.0) (before_ctor features class) ≡ with_roles rs (run_of (ctor_reader features class) e.0 s) = run_append (ctor_reader features class) ts e.0 (before_ctor features class) ∙ ap (on_from (ctor_reader features class) e.0) ran in
+      let e = stage_closes format features class s k in
+      let on : run_of (ctor_reader format features class) (ts ++ e.0) (before_ctor format features class) ≡ with_roles rs (run_of (ctor_reader format features class) e.0 s) = run_append (ctor_reader format features class) ts e.0 (before_ctor format features class) ∙ ap (on_from (ctor_reader format features class) e.0) ran in
       let c = whole_text (ts ++ e.0) (subst (λ (p : Run State). Reaches InMethods p.0) (sym on) e.1) in
       let text : ts ++ (e.0 ++ End ∷ []) ≡ spell_ctor (in_class class c.0) (End ∷ []) = sym (append_assoc ts e.0 (End ∷ [])) ∙ ap (λ w. w ++ End ∷ []) c.1 ∙ sym (ctor_before (in_class class c.0) [] (End ∷ [])) in
-      let all : run_of (ctor_reader features class) (ts ++ (e.0 ++ End ∷ [])) (before_ctor features class) ≡ with_roles rs (run_of (ctor_reader features class) (e.0 ++ End ∷ []) s) = run_append (ctor_reader features class) ts (e.0 ++ End ∷ []) (before_ctor features class) ∙ ap (on_from (ctor_reader features class) (e.0 ++ End ∷ [])) ran in
-      let others : List Role = (run_of (ctor_reader features class) (e.0 ++ End ∷ []) s).1 in
+      let all : run_of (ctor_reader format features class) (ts ++ (e.0 ++ End ∷ [])) (before_ctor format features class) ≡ with_roles rs (run_of (ctor_reader format features class) (e.0 ++ End ∷ []) s) = run_append (ctor_reader format features class) ts (e.0 ++ End ∷ []) (before_ctor format features class) ∙ ap (on_from (ctor_reader format features class) (e.0 ++ End ∷ [])) ran in
+      let others : List Role = (run_of (ctor_reader format features class) (e.0 ++ End ∷ []) s).1 in
       record {
         tree = c.0;
         more = e.0 ++ End ∷ [];
         others = others;
         text = text;
-        in_roles = ap (λ (p : Run State). p.1) (sym (ctor_text_runs c.0) ∙ ap (λ w. run_of (ctor_reader features class) w (before_ctor features class)) (sym text) ∙ all) ∙ ap (λ q. rs ++ (q ++ others)) (sym (no_waiting s k));
+        in_roles = ap (λ (p : Run State). p.1) (sym (ctor_text_runs c.0) ∙ ap (λ w. run_of (ctor_reader format features class) w (before_ctor format features class)) (sym text) ∙ all) ∙ ap (λ q. rs ++ (q ++ others)) (sym (no_waiting s k));
       }
 
-  closes : (ts : List Token) (s : State) (rs : List Role) → Ran ts s rs → Closes (constructors features class) ts rs (pending s)
+  closes : (ts : List Token) (s : State) (rs : List Role) → Ran ts s rs → Closes (constructors format features class) ts rs (pending s)
   closes ts s rs ran = by (stage_of ts s rs ran)
     where
-      by : Reached features class ts (before_ctor features class) s rs → Closes (constructors features class) ts rs (pending s)
+      by : Reached format features class ts (before_ctor format features class) s rs → Closes (constructors format features class) ts rs (pending s)
       by (inside k) = closes_open ts s rs ran k
       by (ended_by front m qs split first roles here is) = closes_ended ts front s m rs qs ran split first here is
 
@@ -234,12 +235,12 @@ module _ (features : List (List ℕ)) (class : List ℕ) where
       next : CtorStage class s → StageNext class s t n → length (emitted s t) + length (pending n) ≡ suc (length (pending s))
       next k (goes_on j) = each_once s n t rs (stands ts s rs (stage_open class s k) ran) (narrow_in s.mode s n t (stage_open class n j) h)
       next k (ends_now here end is) =
-          let one : length (emitted s t) ≡ 1 = ap length (end_plain features class s t here end) in
+          let one : length (emitted s t) ≡ 1 = ap length (end_plain format features class s t here end) in
           let none : length (pending n) ≡ 0 = ap (λ (x : State). length (pending x)) is in
           let before : length (pending s) ≡ 0 = ap length (no_waiting s k) in
           omega (arith, one, none, before)
 
-      by : Reached features class ts (before_ctor features class) s rs → length (emitted s t) + length (pending n) ≡ suc (length (pending s))
+      by : Reached format features class ts (before_ctor format features class) s rs → length (emitted s t) + length (pending n) ≡ suc (length (pending s))
       by (inside k) = next k (stage_step class s n t k h)
       by (ended_by front m qs split first roles here is) = absurd (end_refuses m s n t is h)
 
@@ -250,7 +251,7 @@ module _ (features : List (List ℕ)) (class : List ℕ) where
       open_settled : (ts : List Token) (s : State) (rs : List Role) → is_end s.mode ≡ false → Ran ts s rs → are_settled (rs ++ pending s) ≡ true
       open_settled ts s rs k ran = waiting_settled s.mode s rs (stands ts s rs k ran).holds
 
-      by : Reached features class ts (before_ctor features class) s rs → are_settled (rs ++ pending s) ≡ true
+      by : Reached format features class ts (before_ctor format features class) s rs → are_settled (rs ++ pending s) ≡ true
       by (inside k) = open_settled ts s rs (stage_open class s k) ran
       by (ended_by front m qs split first roles here is) =
           let before : are_settled qs ≡ true = ap are_settled (sym (append-nil qs) ∙ ap (λ q. qs ++ q) (sym (ap (λ x. pending_in x m) here))) ∙ open_settled front m qs (ap is_end here) first in
@@ -259,11 +260,11 @@ module _ (features : List (List ℕ)) (class : List ℕ) where
   -- ---- names
 
   -- where some identifier could stand, one can
-  named : is_identifier class ≡ true → (ts : List Token) (s : State) (rs : List Role) → Ran ts s rs → are_read ts ≡ true → takes_name_for goal.Constructor s.mode s ≡ true → GoesByName (ctor_reader features class) s
+  named : is_identifier class ≡ true → (ts : List Token) (s : State) (rs : List Role) → Ran ts s rs → are_read ts ≡ true → takes_name_for goal.Constructor s.mode s ≡ true → GoesByName (ctor_reader format features class) s
   named fine ts s rs ran read takes = by (stage_of ts s rs ran)
     where
       -- before the constructor the class's name can
-      class_goes : s.mode ≡ InMembers → s.name ≡ class → GoesByName (ctor_reader features class) s
+      class_goes : s.mode ≡ InMembers → s.name ≡ class → GoesByName (ctor_reader format features class) s
       class_goes here name =
           let n : State = record s { mode = AfterType; of = s.name } in
           record {
@@ -273,7 +274,7 @@ module _ (features : List (List ℕ)) (class : List ℕ) where
             goes = ap (λ m. step_for goal.Constructor m s (Id s.name)) here ∙ ap (λ b. if b then Some n else None) (same_name s.name);
           }
 
-      in_mode : (m : Mode) → s.mode ≡ m → is_in_ctor m ≡ true → takes_name_for goal.Constructor m s ≡ true → Kept m s → GoesByName (ctor_reader features class) s
+      in_mode : (m : Mode) → s.mode ≡ m → is_in_ctor m ≡ true → takes_name_for goal.Constructor m s ≡ true → Kept m s → GoesByName (ctor_reader format features class) s
       in_mode InMembers here e takes kept = no_case e
       in_mode AfterType here e takes kept = no_case e
       in_mode InMethods here e takes kept = no_case e
@@ -281,15 +282,15 @@ module _ (features : List (List ℕ)) (class : List ℕ) where
           let n = name_goes m s kept takes in
           record { name = n.name; next = n.next; is = n.is; goes = ap (λ x. step_for goal.Constructor x s (Id n.name)) here ∙ n.goes }
 
-      at : CtorStage class s → GoesByName (ctor_reader features class) s
+      at : CtorStage class s → GoesByName (ctor_reader format features class) s
       at (before_it here name) = class_goes here name
       at (behind_name here same) = no_case (sym (ap (λ m. takes_name_for goal.Constructor m s) here) ∙ takes)
       at (in_it within) =
-          let ours : run ts (before_ctor features class) ≡ (Some s, rs) = narrow_run features class ts (before_ctor features class) s rs (stage_open class s (in_it within)) ran in
-          in_mode s.mode refl within takes (kept_run ts (before_ctor features class) s tt read (ap (λ (p : Run State). p.0) ours))
+          let ours : run ts (before_ctor format features class) ≡ (Some s, rs) = narrow_run format features class ts (before_ctor format features class) s rs (stage_open class s (in_it within)) ran in
+          in_mode s.mode refl within takes (kept_run ts (before_ctor format features class) s tt read (ap (λ (p : Run State). p.0) ours))
       at (behind_it here) = no_case (sym (ap (λ m. takes_name_for goal.Constructor m s) here) ∙ takes)
 
-      by : Reached features class ts (before_ctor features class) s rs → GoesByName (ctor_reader features class) s
+      by : Reached format features class ts (before_ctor format features class) s rs → GoesByName (ctor_reader format features class) s
       by (inside k) = at k
       by (ended_by front m qs split first roles here is) = no_case (sym (ap (λ (x : State). takes_name_for goal.Constructor x.mode x) is) ∙ takes)
 
@@ -303,26 +304,26 @@ ctor_unnamed m s w e = name_stops m s w e
 -- ---- all laws together
 
 -- the machine for a single constructor reads the texts of constructors
-pub constructor_laws : (features : List (List ℕ)) (class : List ℕ) → is_identifier class ≡ true → Reads (constructors features class) (reader_for goal.Constructor features class)
-constructor_laws features class fine =
+pub constructor_laws : (format : Format) (features : List (List ℕ)) (class : List ℕ) → is_identifier class ≡ true → Reads (constructors format features class) (reader_for goal.Constructor format features class)
+constructor_laws format features class fine =
     record {
-      grammar = ctor_grammar_is_plain features class;
-      ended = ctor_ended features class;
+      grammar = ctor_grammar_is_plain format features class;
+      ended = ctor_ended format features class;
       stands_for = λ s. s.ctor;
       valued = λ c. refl;
-      complete = ctor_text_runs features class;
-      sound = sound features class;
-      closes = closes features class;
+      complete = ctor_text_runs format features class;
+      sound = sound format features class;
+      closes = closes format features class;
       first = refl;
       last = λ c. refl;
-      each = each features class;
-      settles = λ ts s c rs ran. ctor_settles features class ts s (ctor_ended features class c) rs refl ran;
-      settled = settled features class;
-      named = named features class fine;
+      each = each format features class;
+      settles = λ ts s c rs ran. ctor_settles format features class ts s (ctor_ended format features class c) rs refl ran;
+      settled = settled format features class;
+      named = named format features class fine;
       unnamed = λ s w free. ctor_unnamed s.mode s w free;
     }
 
 -- the constructor that is read
-pub constructor_stands : (features : List (List ℕ)) (class : List ℕ) (fine : is_identifier class ≡ true) (n : State) → (constructor_laws features class fine).stands_for n ≡ n.ctor
+pub constructor_stands : (format : Format) (features : List (List ℕ)) (class : List ℕ) (fine : is_identifier class ≡ true) (n : State) → (constructor_laws format features class fine).stands_for n ≡ n.ctor
 unfolding constructor_laws
-constructor_stands features class fine n = refl
+constructor_stands format features class fine n = refl

@@ -14,6 +14,7 @@ use Rattle.fj_machine.specs.declared.mode.Node.TheVariants as node
 use Rattle.fj_machine.specs.declared.mode.Owner.TheVariants as owner
 use Rattle.fj_parser.specs.Goals.{step_for, reader_for}
 use Rattle.cfj_model.specs.PartLanguages.{CtorTree, in_class}
+use Rattle.cfj_model.specs.declared.feature_model.Format.{Format}
 use Rattle.fj_machine.specs.Machine.{unnamed, State, behind, with_class, step_in, run}
 use Rattle.fj_machine.specs.Readers.{Run, Reader, with_roles, then_run, run_of}
 use Rattle.fj_parser.proofs.Complete.{same_name, params_run, body_run, behind_ctor}
@@ -21,16 +22,16 @@ use Rattle.fj_parser.proofs.Parts.{Follows, same_run, phase, phase_grows}
 use Rattle.fj_parser.proofs.Readers.{on_from, run_append}
 use Rattle.fj_parser.proofs.Spelled.{ctor_before}
 
-abbrev pub ctor_reader : List (List ℕ) → List ℕ → Reader
-ctor_reader features class = reader_for goal.Constructor features class
+abbrev pub ctor_reader : Format → List (List ℕ) → List ℕ → Reader
+ctor_reader format features class = reader_for goal.Constructor format features class
 
 -- before the constructor of a class of this name
-abbrev pub before_ctor : List (List ℕ) → List ℕ → State
-before_ctor features class = record (behind features [] []) { mode = InMembers; name = class }
+abbrev pub before_ctor : Format → List (List ℕ) → List ℕ → State
+before_ctor format features class = record (behind format features [] []) { mode = InMembers; name = class }
 
 -- and behind it
-abbrev pub behind_one : List (List ℕ) → List ℕ → CtorTree → State
-behind_one features class c = behind_ctor (in_class class c) (record (behind features [] []) { name = class })
+abbrev pub behind_one : Format → List (List ℕ) → List ℕ → CtorTree → State
+behind_one format features class c = behind_ctor (in_class class c) (record (behind format features [] []) { name = class })
 
 -- false isn't true
 pub no_case : {A : Type 0} → false ≡ true → A
@@ -68,8 +69,8 @@ open_before _ s n t h = refl
 narrows : Follows goal.Constructor goal.Project (λ s. Unit {0}) IsOpen
 narrows = record { onwards = λ s n t here h. tt; back = λ s n t h k. open_before s.mode s n t h; same = λ s n t here k h. narrow_in s.mode s n t k h }
 
-pub narrow_run : (features : List (List ℕ)) (class : List ℕ) (ts : List Token) (s n : State) (rs : List Role) → is_end n.mode ≡ false → run_of (ctor_reader features class) ts s ≡ (Some n, rs) → run ts s ≡ (Some n, rs)
-narrow_run features class ts s n rs k h = same_run goal.Constructor goal.Project (λ x. Unit {0}) IsOpen narrows features [] class unnamed ts s n rs tt k h
+pub narrow_run : (format : Format) (features : List (List ℕ)) (class : List ℕ) (ts : List Token) (s n : State) (rs : List Role) → is_end n.mode ≡ false → run_of (ctor_reader format features class) ts s ≡ (Some n, rs) → run ts s ≡ (Some n, rs)
+narrow_run format features class ts s n rs k h = same_run goal.Constructor goal.Project (λ x. Unit {0}) IsOpen narrows format format features [] class unnamed ts s n rs tt k h
 
 -- ---- and the other way round, from the parameters up to the end of the constructor
 
@@ -81,7 +82,7 @@ IsInFirst s = phase s ≤ 5
 
 wide_methods : (s n : State) (t : Token) → phase n ≤ 5 → step_in InMethods s t ≡ Some n → step_for goal.Constructor InMethods s t ≡ Some n
 wide_methods s n At k h =
-    let far : phase n ≡ 10 * length s.classes + 6 = ap phase (sym (same_Some (record s { mode = AfterAt node.Method }) n h)) in
+    let far : phase n ≡ 10 * length s.classes + 6 = ap phase (sym (same_Some (record s { mode = AfterAt node.Method false }) n h)) in
     absurd (omega (arith, far, k))
 wide_methods s n (Id w) k h =
     let far : phase n ≡ 10 * length s.classes + 6 = ap phase (sym (same_Some (record s { mode = AfterResult; of = w }) n h)) in
@@ -113,39 +114,39 @@ widens =
 -- ---- a constructor
 
 -- behind its name and the bracket
-abbrev pub in_ctor : List (List ℕ) → List ℕ → State
-in_ctor features class = record (before_ctor features class) { mode = InParams owner.Constructor }
+abbrev pub in_ctor : Format → List (List ℕ) → List ℕ → State
+in_ctor format features class = record (before_ctor format features class) { mode = InParams owner.Constructor }
 
 -- what stands there
 abbrev pub ctor_words : ClassTree → List Token → List Token
 ctor_words k rest = separated Comma spell_param k.params (CloseParen ∷ (OpenBrace ∷ (SuperWord ∷ (OpenParen ∷ separated Comma spell_sent k.sends (CloseParen ∷ (Semicolon ∷ in_order spell_assign k.assigns (CloseBrace ∷ rest)))))))
 
 -- the name and the bracket
-head_runs : (features : List (List ℕ)) (class : List ℕ) (ts : List Token) → run_of (ctor_reader features class) (Id class ∷ (OpenParen ∷ ts)) (before_ctor features class) ≡ with_roles (used_name class ∷ (other_token ∷ [])) (run_of (ctor_reader features class) ts (in_ctor features class))
+head_runs : (format : Format) (features : List (List ℕ)) (class : List ℕ) (ts : List Token) → run_of (ctor_reader format features class) (Id class ∷ (OpenParen ∷ ts)) (before_ctor format features class) ≡ with_roles (used_name class ∷ (other_token ∷ [])) (run_of (ctor_reader format features class) ts (in_ctor format features class))
 unfolding run_of
-head_runs features class ts =
-    let m : State = record (before_ctor features class) { mode = AfterType; of = class } in
-    ap (λ b. then_run (run_of (ctor_reader features class) (OpenParen ∷ ts)) (used_name class ∷ []) (if b then Some m else None)) (same_name class)
-    ∙ ap (λ b. with_roles (used_name class ∷ []) (then_run (run_of (ctor_reader features class) ts) (other_token ∷ []) (if b then Some (in_ctor features class) else None))) (same_name class)
+head_runs format features class ts =
+    let m : State = record (before_ctor format features class) { mode = AfterType; of = class } in
+    ap (λ b. then_run (run_of (ctor_reader format features class) (OpenParen ∷ ts)) (used_name class ∷ []) (if b then Some m else None)) (same_name class)
+    ∙ ap (λ b. with_roles (used_name class ∷ []) (then_run (run_of (ctor_reader format features class) ts) (other_token ∷ []) (if b then Some (in_ctor format features class) else None))) (same_name class)
 
 -- the roles of what stands behind them
-words_run : (features : List (List ℕ)) (class : List ℕ) (c : CtorTree) → (rs : List Role) × (run (ctor_words (in_class class c) []) (in_ctor features class) ≡ (Some (behind_one features class c), rs)) × (roles_ctor (in_class class c) [] ≡ used_name class ∷ (other_token ∷ rs))
+words_run : (format : Format) (features : List (List ℕ)) (class : List ℕ) (c : CtorTree) → (rs : List Role) × (run (ctor_words (in_class class c) []) (in_ctor format features class) ≡ (Some (behind_one format features class c), rs)) × (roles_ctor (in_class class c) [] ≡ used_name class ∷ (other_token ∷ rs))
 unfolding run_of
-words_run features class c =
+words_run format features class c =
     let k : ClassTree = in_class class c in
     let body : List Token = OpenBrace ∷ (SuperWord ∷ (OpenParen ∷ separated Comma spell_sent k.sends (CloseParen ∷ (Semicolon ∷ in_order spell_assign k.assigns (CloseBrace ∷ []))))) in
-    (_, params_run owner.Constructor k.params body (in_ctor features class) ∙ ap (λ (p : Run State). (p.0, separated other_token roles_param k.params (other_token ∷ p.1))) (body_run k [] (record (behind features [] []) { name = class })), refl)
+    (_, params_run owner.Constructor k.params body (in_ctor format features class) ∙ ap (λ (p : Run State). (p.0, separated other_token roles_param k.params (other_token ∷ p.1))) (body_run k [] (record (behind format features [] []) { name = class })), refl)
 
-ctor_alone : (features : List (List ℕ)) (class : List ℕ) (c : CtorTree) → run_of (ctor_reader features class) (spell_ctor (in_class class c) []) (before_ctor features class) ≡ (Some (behind_one features class c), roles_ctor (in_class class c) [])
-ctor_alone features class c =
-    let w = words_run features class c in
-    head_runs features class (ctor_words (in_class class c) [])
-    ∙ ap (with_roles (used_name class ∷ (other_token ∷ []))) (same_run goal.Project goal.Constructor IsBegun IsInFirst widens [] features unnamed class (ctor_words (in_class class c) []) (in_ctor features class) (behind_one features class c) w.0 (omega arith) (omega arith) w.1)
-    ∙ ap (λ (q : List Role). (Some (behind_one features class c), q)) (sym w.2)
+ctor_alone : (format : Format) (features : List (List ℕ)) (class : List ℕ) (c : CtorTree) → run_of (ctor_reader format features class) (spell_ctor (in_class class c) []) (before_ctor format features class) ≡ (Some (behind_one format features class c), roles_ctor (in_class class c) [])
+ctor_alone format features class c =
+    let w = words_run format features class c in
+    head_runs format features class (ctor_words (in_class class c) [])
+    ∙ ap (with_roles (used_name class ∷ (other_token ∷ []))) (same_run goal.Project goal.Constructor IsBegun IsInFirst widens format format [] features unnamed class (ctor_words (in_class class c) []) (in_ctor format features class) (behind_one format features class c) w.0 (omega arith) (omega arith) w.1)
+    ∙ ap (λ (q : List Role). (Some (behind_one format features class c), q)) (sym w.2)
 
 -- a constructor, and more
-pub ctor_runs : (features : List (List ℕ)) (class : List ℕ) (c : CtorTree) (ts : List Token) → run_of (ctor_reader features class) (spell_ctor (in_class class c) ts) (before_ctor features class) ≡ with_roles (roles_ctor (in_class class c) []) (run_of (ctor_reader features class) ts (behind_one features class c))
-ctor_runs features class c ts =
-    ap (λ w. run_of (ctor_reader features class) w (before_ctor features class)) (ctor_before (in_class class c) [] ts)
-    ∙ run_append (ctor_reader features class) (spell_ctor (in_class class c) []) ts (before_ctor features class)
-    ∙ ap (on_from (ctor_reader features class) ts) (ctor_alone features class c)
+pub ctor_runs : (format : Format) (features : List (List ℕ)) (class : List ℕ) (c : CtorTree) (ts : List Token) → run_of (ctor_reader format features class) (spell_ctor (in_class class c) ts) (before_ctor format features class) ≡ with_roles (roles_ctor (in_class class c) []) (run_of (ctor_reader format features class) ts (behind_one format features class c))
+ctor_runs format features class c ts =
+    ap (λ w. run_of (ctor_reader format features class) w (before_ctor format features class)) (ctor_before (in_class class c) [] ts)
+    ∙ run_append (ctor_reader format features class) (spell_ctor (in_class class c) []) ts (before_ctor format features class)
+    ∙ ap (on_from (ctor_reader format features class) ts) (ctor_alone format features class c)

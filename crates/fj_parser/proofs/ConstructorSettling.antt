@@ -4,6 +4,7 @@ use Rattle.std.proofs.lemmas.List.{append-nil}
 use Rattle.std.proofs.lemmas.Option.{none-some, same_Some}
 use Rattle.std.specs.Str.{bytes_eq}
 use Rattle.cfj_model.specs.Roles.{Role, other_token}
+use Rattle.cfj_model.specs.declared.feature_model.Format.{Format}
 use Rattle.cfj_words.specs.Tokens.{Token, Id, CloseBrace, End}
 use Rattle.fj_parser.specs.Laws.{Settles}
 use Rattle.fj_parser.specs.declared.goal.Goal.TheVariants as goal
@@ -54,30 +55,30 @@ unfolding run_of
 brace_run s here =
     ap (λ m. then_run (run []) (emitted_in m s CloseBrace) (step_in m s CloseBrace)) here
 
-module _ (features : List (List ℕ)) (class : List ℕ) where
+module _ (format : Format) (features : List (List ℕ)) (class : List ℕ) where
   -- each run to the end gives the roles of such a one
-  whole_run : (ts : List Token) (s n : State) (rs : List Role) → n.mode ≡ AtEnd → run_of (ctor_reader features class) ts s ≡ (Some n, rs) → Whole s rs
+  whole_run : (ts : List Token) (s n : State) (rs : List Role) → n.mode ≡ AtEnd → run_of (ctor_reader format features class) ts s ≡ (Some n, rs) → Whole s rs
   unfolding run_of
   whole_run [] s n rs at_end e = record { ts = []; last = n; whole = ap is_whole_in at_end; ran = e }
-  whole_run (t ∷ ts) s n rs at_end e = go (λ x r. whole_run ts x n (run_of (ctor_reader features class) ts x).1 at_end r) (step_for goal.Constructor s.mode s t) refl e
+  whole_run (t ∷ ts) s n rs at_end e = go (λ x r. whole_run ts x n (run_of (ctor_reader format features class) ts x).1 at_end r) (step_for goal.Constructor s.mode s t) refl e
     where
-      go : ((x : State) → run_of (ctor_reader features class) ts x ≡ (Some n, (run_of (ctor_reader features class) ts x).1) → Whole x (run_of (ctor_reader features class) ts x).1)
-          → (o : Option State) → step_for goal.Constructor s.mode s t ≡ o → then_run (run_of (ctor_reader features class) ts) (emitted s t) o ≡ (Some n, rs) → Whole s rs
+      go : ((x : State) → run_of (ctor_reader format features class) ts x ≡ (Some n, (run_of (ctor_reader format features class) ts x).1) → Whole x (run_of (ctor_reader format features class) ts x).1)
+          → (o : Option State) → step_for goal.Constructor s.mode s t ≡ o → then_run (run_of (ctor_reader format features class) ts) (emitted s t) o ≡ (Some n, rs) → Whole s rs
       go ih None goes e = absurd (none-some n (ap (λ (p : Run State). p.0) e))
       go ih (Some x) goes e = by (is_behind s.mode) refl
         where
-          r : run_of (ctor_reader features class) ts x ≡ (Some n, (run_of (ctor_reader features class) ts x).1)
-          r = ap (λ (p : Run State). (p.0, (run_of (ctor_reader features class) ts x).1)) e
+          r : run_of (ctor_reader format features class) ts x ≡ (Some n, (run_of (ctor_reader format features class) ts x).1)
+          r = ap (λ (p : Run State). (p.0, (run_of (ctor_reader format features class) ts x).1)) e
 
-          all : emitted s t ++ (run_of (ctor_reader features class) ts x).1 ≡ rs
+          all : emitted s t ++ (run_of (ctor_reader format features class) ts x).1 ≡ rs
           all = ap (λ (p : Run State). p.1) e
 
           by : (b : Bool) → is_behind s.mode ≡ b → Whole s rs
           by true there =
               let here : s.mode ≡ InMethods = is_there s.mode there in
               let end = takes_end s x t (ap (λ m. step_for goal.Constructor m s t) (sym here) ∙ goes) in
-              let nothing = end_only features class ts x n (run_of (ctor_reader features class) ts x).1 (ap (λ (y : State). y.mode) (sym end.1)) r in
-              let same : other_token ∷ [] ≡ rs = sym (end_plain features class s t here end.0) ∙ sym (append-nil (emitted s t)) ∙ ap (λ q. emitted s t ++ q) (sym nothing.2) ∙ all in
+              let nothing = end_only format features class ts x n (run_of (ctor_reader format features class) ts x).1 (ap (λ (y : State). y.mode) (sym end.1)) r in
+              let same : other_token ∷ [] ≡ rs = sym (end_plain format features class s t here end.0) ∙ sym (append-nil (emitted s t)) ∙ ap (λ q. emitted s t ++ q) (sym nothing.2) ∙ all in
               record { ts = CloseBrace ∷ []; last = with_class s; whole = refl; ran = brace_run s here ∙ ap (λ (q : List Role). (Some (with_class s), q)) same }
           by false elsewhere =
               let w = ih x r in
@@ -89,7 +90,7 @@ module _ (features : List (List ℕ)) (class : List ℕ) where
               }
 
   -- what waits is settled first
-  pub ctor_settles : (ts : List Token) (s n : State) (rs : List Role) → n.mode ≡ AtEnd → run_of (ctor_reader features class) ts s ≡ (Some n, rs) → Settles (pending s) rs
+  pub ctor_settles : (ts : List Token) (s n : State) (rs : List Role) → n.mode ≡ AtEnd → run_of (ctor_reader format features class) ts s ≡ (Some n, rs) → Settles (pending s) rs
   ctor_settles ts s n rs at_end ran =
       let w = whole_run ts s n rs at_end ran in
       run_settles w.ts s w.last rs w.whole w.ran

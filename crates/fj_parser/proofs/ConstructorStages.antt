@@ -5,7 +5,8 @@ use Rattle.std.proofs.lemmas.Option.{none-some, same_Some}
 use Rattle.std.proofs.lemmas.Slice.Eq.{bytes_eq-Decides}
 use Rattle.std.specs.Str.{bytes_eq}
 use Rattle.cfj_model.specs.Roles.{Role, used_name, other_token}
-use Rattle.cfj_words.specs.Tokens.{Token, Id, SuperWord, ThisWord, OpenBrace, CloseBrace, OpenParen, CloseParen, Semicolon, Comma, Dot, Equals, At, End}
+use Rattle.cfj_model.specs.declared.feature_model.Format.{Format}
+use Rattle.cfj_words.specs.Tokens.{Token, Id, SuperWord, ThisWord, OpenBrace, CloseBrace, OpenParen, CloseParen, Semicolon, Comma, Dot, Equals, At, Bang, End}
 use Rattle.fj_parser.specs.declared.goal.Goal.TheVariants as goal
 use Rattle.fj_machine.specs.declared.mode.Mode.{Mode}
 use Rattle.fj_machine.specs.declared.mode.Mode.TheVariants.{InMembers, AfterAt, AfterMark, AfterType, InParams, AfterParamComma, AfterParamType, AfterParam, AfterParams, InBody, AfterSuper, InSends, AfterSendComma, AfterSend, AfterSends, InAssigns, AfterThis, AfterThisDot, AfterAssigned, AfterEquals, AfterSecondName, InMethods, AtEnd}
@@ -23,9 +24,9 @@ use Rattle.fj_parser.proofs.Standing.{emitted_in}
 
 -- the modes in a constructor, from its first bracket on
 abbrev pub is_in_ctor : Mode → Bool
-is_in_ctor (AfterAt (node.Param owner.Constructor)) = true
-is_in_ctor (AfterAt node.Send) = true
-is_in_ctor (AfterAt node.Assign) = true
+is_in_ctor (AfterAt (node.Param owner.Constructor) off) = true
+is_in_ctor (AfterAt node.Send off) = true
+is_in_ctor (AfterAt node.Assign off) = true
 is_in_ctor (AfterMark (node.Param owner.Constructor)) = true
 is_in_ctor (AfterMark node.Send) = true
 is_in_ctor (AfterMark node.Assign) = true
@@ -64,9 +65,12 @@ after_equals true n h = h
 after_equals false n h = tt
 
 after_ctor : (m : Mode) (s : State) (t : Token) → AfterCtor (is_in_ctor m) (step_in m s t)
-after_ctor (AfterAt (node.Param owner.Constructor)) s (Id w) = refl
-after_ctor (AfterAt node.Send) s (Id w) = refl
-after_ctor (AfterAt node.Assign) s (Id w) = refl
+after_ctor (AfterAt (node.Param owner.Constructor) off) s (Id w) = refl
+after_ctor (AfterAt node.Send off) s (Id w) = refl
+after_ctor (AfterAt node.Assign off) s (Id w) = refl
+after_ctor (AfterAt (node.Param owner.Constructor) false) s Bang = refl
+after_ctor (AfterAt node.Send false) s Bang = refl
+after_ctor (AfterAt node.Assign false) s Bang = refl
 after_ctor (AfterMark (node.Param owner.Constructor)) s At = refl
 after_ctor (AfterMark (node.Param owner.Constructor)) s (Id w) = refl
 after_ctor (AfterMark node.Send) s At = refl
@@ -166,47 +170,47 @@ stage_step class s n t (behind_it here) h = behind_step class s n t here (ap (λ
 
 -- ---- runs
 
-module _ (features : List (List ℕ)) (class : List ℕ) where
+module _ (format : Format) (features : List (List ℕ)) (class : List ℕ) where
   -- what follows the end is nothing
-  pub end_only : (ts : List Token) (s n : State) (rs : List Role) → s.mode ≡ AtEnd → run_of (ctor_reader features class) ts s ≡ (Some n, rs) → (ts ≡ []) × (s ≡ n) × (rs ≡ [])
+  pub end_only : (ts : List Token) (s n : State) (rs : List Role) → s.mode ≡ AtEnd → run_of (ctor_reader format features class) ts s ≡ (Some n, rs) → (ts ≡ []) × (s ≡ n) × (rs ≡ [])
   unfolding run_of
   end_only [] s n rs here h = (refl, same_Some s n (ap (λ (p : Run State). p.0) h), sym (ap (λ (p : Run State). p.1) h))
-  end_only (t ∷ ts) s n rs here h = absurd (none-some n (ap (λ (p : Run State). p.0) (ap (λ m. then_run (run_of (ctor_reader features class) ts) (emitted s t) (step_for goal.Constructor m s t)) (sym here) ∙ h)))
+  end_only (t ∷ ts) s n rs here h = absurd (none-some n (ap (λ (p : Run State). p.0) (ap (λ m. then_run (run_of (ctor_reader format features class) ts) (emitted s t) (step_for goal.Constructor m s t)) (sym here) ∙ h)))
 
   -- A state that is reached is in such a stage, or the end was read behind one.
   pub data Reached (ts : List Token) (s n : State) (rs : List Role) : Type 0 where
     inside : CtorStage class n → Reached ts s n rs
-    ended_by : (front : List Token) (m : State) (qs : List Role) → ts ≡ front ++ End ∷ [] → run_of (ctor_reader features class) front s ≡ (Some m, qs) → rs ≡ qs ++ other_token ∷ [] → m.mode ≡ InMethods → n ≡ record m { mode = AtEnd } → Reached ts s n rs
+    ended_by : (front : List Token) (m : State) (qs : List Role) → ts ≡ front ++ End ∷ [] → run_of (ctor_reader format features class) front s ≡ (Some m, qs) → rs ≡ qs ++ other_token ∷ [] → m.mode ≡ InMethods → n ≡ record m { mode = AtEnd } → Reached ts s n rs
 
   -- the end of the text is plain
   pub end_plain : (s : State) (t : Token) → s.mode ≡ InMethods → t ≡ End → emitted s t ≡ other_token ∷ []
   end_plain s t here end = ap (λ m. emitted_in m s t) here ∙ ap (λ u. emitted_in InMethods s u) end
 
-  pub reached_run : (ts : List Token) (s n : State) (rs : List Role) → CtorStage class s → run_of (ctor_reader features class) ts s ≡ (Some n, rs) → Reached ts s n rs
+  pub reached_run : (ts : List Token) (s n : State) (rs : List Role) → CtorStage class s → run_of (ctor_reader format features class) ts s ≡ (Some n, rs) → Reached ts s n rs
   unfolding run_of
   reached_run [] s n rs k e = inside (subst (CtorStage class) (same_Some s n (ap (λ (p : Run State). p.0) e)) k)
-  reached_run (t ∷ ts) s n rs k e = go (λ x j r. reached_run ts x n (run_of (ctor_reader features class) ts x).1 j r) (step_for goal.Constructor s.mode s t) refl e
+  reached_run (t ∷ ts) s n rs k e = go (λ x j r. reached_run ts x n (run_of (ctor_reader format features class) ts x).1 j r) (step_for goal.Constructor s.mode s t) refl e
     where
-      go : ((x : State) → CtorStage class x → run_of (ctor_reader features class) ts x ≡ (Some n, (run_of (ctor_reader features class) ts x).1) → Reached ts x n (run_of (ctor_reader features class) ts x).1)
-          → (o : Option State) → step_for goal.Constructor s.mode s t ≡ o → then_run (run_of (ctor_reader features class) ts) (emitted s t) o ≡ (Some n, rs) → Reached (t ∷ ts) s n rs
+      go : ((x : State) → CtorStage class x → run_of (ctor_reader format features class) ts x ≡ (Some n, (run_of (ctor_reader format features class) ts x).1) → Reached ts x n (run_of (ctor_reader format features class) ts x).1)
+          → (o : Option State) → step_for goal.Constructor s.mode s t ≡ o → then_run (run_of (ctor_reader format features class) ts) (emitted s t) o ≡ (Some n, rs) → Reached (t ∷ ts) s n rs
       go ih None goes e = absurd (none-some n (ap (λ (p : Run State). p.0) e))
       go ih (Some x) goes e = by (stage_step class s x t k goes)
         where
-          r : run_of (ctor_reader features class) ts x ≡ (Some n, (run_of (ctor_reader features class) ts x).1)
-          r = ap (λ (p : Run State). (p.0, (run_of (ctor_reader features class) ts x).1)) e
+          r : run_of (ctor_reader format features class) ts x ≡ (Some n, (run_of (ctor_reader format features class) ts x).1)
+          r = ap (λ (p : Run State). (p.0, (run_of (ctor_reader format features class) ts x).1)) e
 
-          all : emitted s t ++ (run_of (ctor_reader features class) ts x).1 ≡ rs
+          all : emitted s t ++ (run_of (ctor_reader format features class) ts x).1 ≡ rs
           all = ap (λ (p : Run State). p.1) e
 
-          on : Reached ts x n (run_of (ctor_reader features class) ts x).1 → Reached (t ∷ ts) s n rs
+          on : Reached ts x n (run_of (ctor_reader format features class) ts x).1 → Reached (t ∷ ts) s n rs
           on (inside j) = inside j
           on (ended_by front m qs split ran roles here end) =
-              ended_by (t ∷ front) m (emitted s t ++ qs) (ap (λ w. t ∷ w) split) (ap (then_run (run_of (ctor_reader features class) front) (emitted s t)) goes ∙ ap (λ (p : Run State). (p.0, emitted s t ++ p.1)) ran) (sym all ∙ ap (λ q. emitted s t ++ q) roles ∙ sym (append_assoc (emitted s t) qs (other_token ∷ []))) here end
+              ended_by (t ∷ front) m (emitted s t ++ qs) (ap (λ w. t ∷ w) split) (ap (then_run (run_of (ctor_reader format features class) front) (emitted s t)) goes ∙ ap (λ (p : Run State). (p.0, emitted s t ++ p.1)) ran) (sym all ∙ ap (λ q. emitted s t ++ q) roles ∙ sym (append_assoc (emitted s t) qs (other_token ∷ []))) here end
 
           by : StageNext class s t x → Reached (t ∷ ts) s n rs
           by (goes_on j) = on (ih x j r)
           by (ends_now here end is) =
-              let nothing = end_only ts x n (run_of (ctor_reader features class) ts x).1 (ap (λ (y : State). y.mode) is) r in
+              let nothing = end_only ts x n (run_of (ctor_reader format features class) ts x).1 (ap (λ (y : State). y.mode) is) r in
               ended_by [] s [] (ap (λ w. t ∷ w) nothing.0 ∙ ap (λ u. u ∷ []) end) refl (sym all ∙ ap (λ q. emitted s t ++ q) nothing.2 ∙ append-nil (emitted s t) ∙ end_plain s t here end) here (sym nothing.1 ∙ is)
 
 -- ---- how a state is completed
@@ -228,9 +232,9 @@ unfoldable pub assign_end : List Token
 assign_end = Dot ∷ (Id [] ∷ (Equals ∷ second_end []))
 
 closing : Mode → State → List Token
-closing (AfterAt (node.Param owner.Constructor)) s = Id [] ∷ (Id [] ∷ (Id [] ∷ params_end))
-closing (AfterAt node.Send) s = Id [] ∷ (Id [] ∷ sends_end)
-closing (AfterAt node.Assign) s = Id [] ∷ (ThisWord ∷ assign_end)
+closing (AfterAt (node.Param owner.Constructor) off) s = Id [] ∷ (Id [] ∷ (Id [] ∷ params_end))
+closing (AfterAt node.Send off) s = Id [] ∷ (Id [] ∷ sends_end)
+closing (AfterAt node.Assign off) s = Id [] ∷ (ThisWord ∷ assign_end)
 closing (AfterMark (node.Param owner.Constructor)) s = Id [] ∷ (Id [] ∷ params_end)
 closing (AfterMark node.Send) s = Id [] ∷ sends_end
 closing (AfterMark node.Assign) s = ThisWord ∷ assign_end
@@ -257,22 +261,22 @@ through : (b : Bool) (f : State → Run State) (rs : List Role) (n : State) → 
 through true f rs n e h = h
 through false f rs n e h = no_case e
 
-module _ (features : List (List ℕ)) (class : List ℕ) where
+module _ (format : Format) (features : List (List ℕ)) (class : List ℕ) where
   -- what tokens reach from a state
   abbrev pub reached_by : List Token → State → Option State
-  reached_by ts s = (run_of (ctor_reader features class) ts s).0
+  reached_by ts s = (run_of (ctor_reader format features class) ts s).0
 
   second_closes : (s : State) → Reaches InMethods (reached_by (second_end s.last) (record s { mode = AfterEquals }))
   unfolding run_of second_end
-  second_closes s = through (bytes_eq s.last s.last) (run_of (ctor_reader features class) (Semicolon ∷ (CloseBrace ∷ []))) (used_name s.last ∷ []) (record s { mode = AfterSecondName; last = unnamed }) (same_name s.last) refl
+  second_closes s = through (bytes_eq s.last s.last) (run_of (ctor_reader format features class) (Semicolon ∷ (CloseBrace ∷ []))) (used_name s.last ∷ []) (record s { mode = AfterSecondName; last = unnamed }) (same_name s.last) refl
 
   name_closes : (s : State) → s.of ≡ s.name → Reaches InMethods (reached_by (OpenParen ∷ params_end) (record s { mode = AfterType }))
   unfolding run_of params_end body_end sends_end
-  name_closes s same = through (bytes_eq s.of s.name) (run_of (ctor_reader features class) params_end) (other_token ∷ []) (record s { mode = InParams owner.Constructor; of = unnamed }) ((bytes_eq-Decides s.of s.name).1 same) refl
+  name_closes s same = through (bytes_eq s.of s.name) (run_of (ctor_reader format features class) params_end) (other_token ∷ []) (record s { mode = InParams owner.Constructor; of = unnamed }) ((bytes_eq-Decides s.of s.name).1 same) refl
 
   start_closes : (s : State) → Reaches InMethods (reached_by (Id s.name ∷ (OpenParen ∷ params_end)) (record s { mode = InMembers }))
   unfolding run_of
-  start_closes s = through (bytes_eq s.name s.name) (run_of (ctor_reader features class) (OpenParen ∷ params_end)) (used_name s.name ∷ []) (record s { mode = AfterType; of = s.name }) (same_name s.name) (name_closes (record s { of = s.name }) refl)
+  start_closes s = through (bytes_eq s.name s.name) (run_of (ctor_reader format features class) (OpenParen ∷ params_end)) (used_name s.name ∷ []) (record s { mode = AfterType; of = s.name }) (same_name s.name) (name_closes (record s { of = s.name }) refl)
 
   behind_closes : (s : State) → Reaches InMethods (reached_by [] (record s { mode = InMethods }))
   unfolding run_of
@@ -281,9 +285,9 @@ module _ (features : List (List ℕ)) (class : List ℕ) where
   -- each state in a constructor is completed by its closing
   closes : (m : Mode) (s : State) → is_in_ctor m ≡ true → Reaches InMethods (reached_by (closing m s) (record s { mode = m }))
   unfolding run_of closing params_end body_end sends_end assign_end second_end
-  closes (AfterAt (node.Param owner.Constructor)) s e = refl
-  closes (AfterAt node.Send) s e = refl
-  closes (AfterAt node.Assign) s e = refl
+  closes (AfterAt (node.Param owner.Constructor) off) s e = refl
+  closes (AfterAt node.Send off) s e = refl
+  closes (AfterAt node.Assign off) s e = refl
   closes (AfterMark (node.Param owner.Constructor)) s e = refl
   closes (AfterMark node.Send) s e = refl
   closes (AfterMark node.Assign) s e = refl

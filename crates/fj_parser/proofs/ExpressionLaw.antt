@@ -23,6 +23,7 @@ use Rattle.expression_reader.proofs.Law as expression_law
 use Rattle.expression_reader.proofs.Sound as expression_sound
 use Rattle.fj_parser.specs.Goals.{start_for, step_for, takes_name_for, reader_for}
 use Rattle.cfj_model.specs.PartLanguages.{UnmarkedTree, expressions}
+use Rattle.cfj_model.specs.declared.feature_model.Format.TheVariants.{One}
 use Rattle.fj_parser.specs.Laws.{Settles, alike, Closes, GoesByName, Reads}
 use Rattle.fj_machine.specs.Machine.{unnamed, State, method_of, with_method, after_expression, in_expression, step_in, emitted, pending, pending_in}
 use Rattle.fj_machine.specs.Readers.{Reader, Run, then_run, run_of}
@@ -38,10 +39,10 @@ use Rattle.fj_parser.proofs.Unmarked.{is_inner, are_inner, expr_inner, is_unmark
 
 -- the machine, and its start
 abbrev machine : Reader
-machine = reader_for goal.Expression [] unnamed
+machine = reader_for goal.Expression One [] unnamed
 
 abbrev first : State
-first = start_for goal.Expression [] unnamed
+first = start_for goal.Expression One [] unnamed
 
 no_case : {A : Type 0} → false ≡ true → A
 no_case e = absurd (let no : ⊥ = cc e in no)
@@ -333,7 +334,7 @@ body_in [] = e.Var 0 unnamed
 body_in (m ∷ ms) = m.body
 
 -- the machine reads expressions without marks
-pub expression_laws : Reads expressions (reader_for goal.Expression [] unnamed)
+pub expression_laws : Reads expressions (reader_for goal.Expression One [] unnamed)
 expression_laws =
     record {
       grammar = record { spells = λ x a b. sym (spell_before x.tree a b); gives = λ x a b. sym (roles_before 0 x.tree a b); settled = λ x. roles_settled 0 x.tree [] refl };
@@ -361,6 +362,6 @@ one_body _ _ n _ (inside ts m rs i ran on) g =
     (method_of (in_body first m) x.0, ap (λ (y : State). y.methods) (sym is), ap (λ (y : State). body_in y.methods) (sym is))
 one_body _ _ n _ (at_end us m x rs i ran whole) g = absurd (none-some n g)
 
-pub expression_stands : (ts : List Token) (s n : State) (rs : List Role) → run_of (reader_for goal.Expression [] unnamed) ts (start_for goal.Expression [] unnamed) ≡ (Some s, rs) → step_for goal.Expression s.mode s End ≡ Some n → (m : Method) × (n.methods ≡ m ∷ []) × (expression_laws.stands_for n ≡ m.body)
+pub expression_stands : (ts : List Token) (s n : State) (rs : List Role) → run_of (reader_for goal.Expression One [] unnamed) ts (start_for goal.Expression One [] unnamed) ≡ (Some s, rs) → step_for goal.Expression s.mode s End ≡ Some n → (m : Method) × (n.methods ≡ m ∷ []) × (expression_laws.stands_for n ≡ m.body)
 unfolding expression_laws
 expression_stands ts s n rs ran g = one_body ts s n rs (reached ts s rs ran) g

@@ -4,6 +4,7 @@ use Rattle.std.proofs.lemmas.List.{append-nil}
 use Rattle.std.proofs.lemmas.Option.{none-some, same_Some}
 use Rattle.cfj_model.specs.declared.expr.Expr.{Expr}
 use Rattle.cfj_model.specs.Roles.{Role}
+use Rattle.cfj_model.specs.declared.feature_model.Format.{Format}
 use Rattle.cfj_words.specs.Tokens.{Token}
 use Rattle.expression_reader.specs.Machine as expression
 use Rattle.expression_reader.proofs.Finishing.{waited_first}
@@ -62,33 +63,33 @@ left_more t s e n rest rs goes all l =
     }
 
 -- A run that leaves an expression reads it to its end.
-leaves : (g : Goal) (features : List (List ℕ)) (class : List ℕ) → ReadsBodies g → (ts : List Token) (s n : State) (e : expression.State) (rs : List Role) → run_of (reader_for g features class) ts (in_body s e) ≡ (Some n, rs) → is_declaring n.mode ≡ true → Left s e rs
+leaves : (g : Goal) (format : Format) (features : List (List ℕ)) (class : List ℕ) → ReadsBodies g → (ts : List Token) (s n : State) (e : expression.State) (rs : List Role) → run_of (reader_for g format features class) ts (in_body s e) ≡ (Some n, rs) → is_declaring n.mode ≡ true → Left s e rs
 unfolding run_of
-leaves g features class same [] s n e rs h outside =
+leaves g format features class same [] s n e rs h outside =
     let is : in_body s e ≡ n = same_Some (in_body s e) n (ap (λ (p : Run State). p.0) h) in
     let no : is_declaring InExpression ≡ true = ap (λ (x : State). is_declaring x.mode) is ∙ outside in
     absurd (let false_is_true : ⊥ = cc no in false_is_true)
-leaves g features class same (t ∷ ts) s n e rs h outside =
-    go (λ m k. leaves g features class same ts s n m (run_of (reader_for g features class) ts (in_body s m)).1 k outside) (expression.step s.features e t) refl (sym (ap (then_run (run_of (reader_for g features class) ts) (expression.emitted e t)) (same (in_body s e) t)) ∙ h)
+leaves g format features class same (t ∷ ts) s n e rs h outside =
+    go (λ m k. leaves g format features class same ts s n m (run_of (reader_for g format features class) ts (in_body s m)).1 k outside) (expression.step s.features e t) refl (sym (ap (then_run (run_of (reader_for g format features class) ts) (expression.emitted e t)) (same (in_body s e) t)) ∙ h)
   where
-    go : ((m : expression.State) → run_of (reader_for g features class) ts (in_body s m) ≡ (Some n, (run_of (reader_for g features class) ts (in_body s m)).1) → Left s m (run_of (reader_for g features class) ts (in_body s m)).1)
-        → (o : Option expression.State) → expression.step s.features e t ≡ o → then_run (run_of (reader_for g features class) ts) (expression.emitted e t) (in_expression (in_body s e) o) ≡ (Some n, rs) → Left s e rs
+    go : ((m : expression.State) → run_of (reader_for g format features class) ts (in_body s m) ≡ (Some n, (run_of (reader_for g format features class) ts (in_body s m)).1) → Left s m (run_of (reader_for g format features class) ts (in_body s m)).1)
+        → (o : Option expression.State) → expression.step s.features e t ≡ o → then_run (run_of (reader_for g format features class) ts) (expression.emitted e t) (in_expression (in_body s e) o) ≡ (Some n, rs) → Left s e rs
     go ih None stuck k = absurd (none-some n (ap (λ (p : Run State). p.0) k))
     go ih (Some m) steps k = by (expression.expression m) refl k
       where
-        by : (q : Option Expr) → expression.expression m ≡ q → then_run (run_of (reader_for g features class) ts) (expression.emitted e t) (Some (after_expression (in_body s e) m q)) ≡ (Some n, rs) → Left s e rs
+        by : (q : Option Expr) → expression.expression m ≡ q → then_run (run_of (reader_for g format features class) ts) (expression.emitted e t) (Some (after_expression (in_body s e) m q)) ≡ (Some n, rs) → Left s e rs
         by None unread k =
-            let rest : List Role = (run_of (reader_for g features class) ts (in_body s m)).1 in
+            let rest : List Role = (run_of (reader_for g format features class) ts (in_body s m)).1 in
             left_more t s e m rest rs steps (ap (λ (p : Run State). p.1) k) (ih m (ap (λ (p : Run State). (p.0, rest)) k))
-        by (Some x) whole k = left_by t s e m x (run_of (reader_for g features class) ts (after_expression (in_body s e) m (Some x))).1 rs steps whole (ap (λ (p : Run State). p.1) k)
+        by (Some x) whole k = left_by t s e m x (run_of (reader_for g format features class) ts (after_expression (in_body s e) m (Some x))).1 rs steps whole (ap (λ (p : Run State). p.1) k)
 
 -- What waits is settled first, by a run that doesn't end in an expression.
-pub goal_settles : (g : Goal) (features : List (List ℕ)) (class : List ℕ) → ReadsBodies g → (ts : List Token) (s n : State) (rs : List Role) → run_of (reader_for g features class) ts s ≡ (Some n, rs) → is_declaring n.mode ≡ true → Settles (pending s) rs
-goal_settles g features class same ts s n rs h outside = by s.mode refl
+pub goal_settles : (g : Goal) (format : Format) (features : List (List ℕ)) (class : List ℕ) → ReadsBodies g → (ts : List Token) (s n : State) (rs : List Role) → run_of (reader_for g format features class) ts s ≡ (Some n, rs) → is_declaring n.mode ≡ true → Settles (pending s) rs
+goal_settles g format features class same ts s n rs h outside = by s.mode refl
   where
     by : (m : Mode) → s.mode ≡ m → Settles (pending_in m s) rs
     by InExpression here =
         let is : s ≡ in_body s s.expression = ap (λ m. record s { mode = m }) here in
-        let l = leaves g features class same ts s n s.expression rs (ap (run_of (reader_for g features class) ts) (sym is) ∙ h) outside in
+        let l = leaves g format features class same ts s n s.expression rs (ap (run_of (reader_for g format features class) ts) (sym is) ∙ h) outside in
         begun_on (expression.pending s.expression) l.own l.others rs l.all (waited_first s.features l.us s.expression l.last l.own l.ran l.whole)
     by _ here = alike rs refl

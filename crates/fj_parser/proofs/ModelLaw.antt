@@ -6,7 +6,7 @@ use Rattle.std.proofs.lemmas.Option.{none-some, same_Some}
 use Rattle.std.specs.Str.{bytes_eq}
 use Rattle.cfj_logic.specs.declared.formula.Formula.{Formula}
 use Rattle.cfj_model.specs.FormulaGrammar.{IffTree, one_implies, iff, ImpliesTree, one_or, implies, OrTree, one_and, or, AndTree, one_unary, and, UnaryTree, negated, named, true_word, false_word, bracketed, spell_iff, spell_implies, spell_or, spell_and, spell_unary}
-use Rattle.cfj_model.specs.Grammar.{ClassTree, Tree, constraint_word, features_word, spell_name, spell_features, spell_constraint, spell_class, spell}
+use Rattle.cfj_model.specs.Grammar.{ClassTree, Tree, constraint_word, features_word, spell_name, spell_format, spell_features, spell_constraint, spell_class, spell}
 use Rattle.cfj_model.specs.Marks.{in_order, each_behind, spell_marks}
 use Rattle.cfj_model.specs.Roles.{Role, other_token}
 use Rattle.cfj_words.specs.Tokens.{Token, Id, ClassWord, CloseParen, Semicolon, Comma, Ampersand, Bar, Arrow, DoubleArrow, At, End}
@@ -18,13 +18,16 @@ use Rattle.formula_reader.proofs.Law.{completes}
 use Rattle.formula_reader.proofs.Leads.{Leads, last, more, run_leads}
 use Rattle.fj_parser.specs.Goals.{step_for, reader_for}
 use Rattle.cfj_model.specs.PartLanguages.{ModelTree, without_classes, models}
+use Rattle.cfj_model.specs.declared.feature_model.Format.TheVariants.{One, Two}
+use Rattle.cfj_model.specs.declared.feature_model.Format.{Format}
+use Rattle.cfj_model.specs.declared.signed.Signed.{Signed}
 use Rattle.fj_parser.specs.Laws.{Closes, GoesByName, Reads}
-use Rattle.fj_machine.specs.Machine.{unnamed, State, start, after_formula, in_formula, opens_constraint, step_in, step, emitted, pending, pending_in, run}
+use Rattle.fj_machine.specs.Machine.{unnamed, State, start, after_formula, in_formula, opens_constraint, opens_format, to, step_in, step, emitted, pending, pending_in, run}
 use Rattle.fj_machine.specs.Machine as machine
 use Rattle.fj_machine.specs.Readers.{Reader, Run, then_run, run_of}
 use Rattle.fj_parser.specs.declared.goal.Goal.TheVariants as goal
 use Rattle.fj_machine.specs.declared.mode.Mode.{Mode}
-use Rattle.fj_machine.specs.declared.mode.Mode.TheVariants.{Begin, AfterFeatures, AfterFeature, AfterFeatureComma, Start, InConstraint, AtEnd}
+use Rattle.fj_machine.specs.declared.mode.Mode.TheVariants.{Begin, AfterFormat, AfterFeatures, AfterFeature, AfterFeatureComma, Start, InConstraint, AtEnd}
 use Rattle.fj_parser.proofs.Closing.{Reaches}
 use Rattle.fj_parser.proofs.Complete.{ended, text_runs, formula_runs}
 use Rattle.fj_parser.proofs.Law.{laws, closed_text, settles}
@@ -33,7 +36,7 @@ use Rattle.fj_parser.proofs.Standing.{reached}
 
 -- the machine
 abbrev models_only : Reader
-models_only = reader_for goal.Model [] unnamed
+models_only = reader_for goal.Model One [] unnamed
 
 no_case : {A : Type 0} → false ≡ true → A
 no_case e = absurd (let no : ⊥ = cc e in no)
@@ -79,7 +82,11 @@ mutual
   unary_classless false_word rest = refl
   unary_classless (bracketed x) rest = iff_classless x (CloseParen ∷ rest)
 
--- nor has the feature line, or a constraint
+-- nor has a line of the model: that for the format, that for the features, or a constraint
+format_classless : (format : Format) (rest : List Token) → are_classless (spell_format format rest) ≡ are_classless rest
+format_classless One rest = refl
+format_classless Two rest = refl
+
 more_classless : (fs : List (List ℕ)) (rest : List Token) → are_classless (each_behind Comma spell_name fs rest) ≡ are_classless rest
 more_classless [] rest = refl
 more_classless (f ∷ fs) rest = more_classless fs rest
@@ -92,11 +99,12 @@ constraints_classless : (xs : List IffTree) (rest : List Token) → are_classles
 constraints_classless [] rest = refl
 constraints_classless (x ∷ xs) rest = iff_classless x (Semicolon ∷ in_order spell_constraint xs rest) ∙ constraints_classless xs rest
 
-parts_classless : (fs : List (List ℕ)) (xs : List IffTree) (rest : List Token) → are_classless (spell_features fs (in_order spell_constraint xs rest)) ≡ are_classless rest
-parts_classless fs xs rest = features_classless fs (in_order spell_constraint xs rest) ∙ constraints_classless xs rest
+parts_classless : (format : Format) (fs : List (List ℕ)) (xs : List IffTree) (rest : List Token) → are_classless (spell_format format (spell_features fs (in_order spell_constraint xs rest))) ≡ are_classless rest
+parts_classless format fs xs rest =
+    format_classless format (spell_features fs (in_order spell_constraint xs rest)) ∙ features_classless fs (in_order spell_constraint xs rest) ∙ constraints_classless xs rest
 
 -- but each class has
-class_begins : (ms : List (List ℕ)) (rest : List Token) → are_classless (spell_marks ms (ClassWord ∷ rest)) ≡ false
+class_begins : (ms : List Signed) (rest : List Token) → are_classless (spell_marks ms (ClassWord ∷ rest)) ≡ false
 class_begins [] rest = refl
 class_begins (m ∷ ms) rest = refl
 
@@ -107,8 +115,8 @@ no_classes (k ∷ ks) rest h = no_case (sym (class_begins k.marks _) ∙ h)
 -- the text of a project without such a token is a feature model's
 model_of : (x : Tree) (rest : List Token) → are_classless (spell x rest) ≡ true → (m : ModelTree) × (spell x rest ≡ spell (without_classes m) rest)
 model_of x rest h =
-    let none : x.classes ≡ [] = no_classes x.classes rest (sym (parts_classless x.features x.constraints (in_order spell_class x.classes rest)) ∙ h) in
-    (record { features = x.features; constraints = x.constraints }, ap (λ ks. spell_features x.features (in_order spell_constraint x.constraints (in_order spell_class ks rest))) none)
+    let none : x.classes ≡ [] = no_classes x.classes rest (sym (parts_classless x.format x.features x.constraints (in_order spell_class x.classes rest)) ∙ h) in
+    (record { format = x.format; features = x.features; constraints = x.constraints }, ap (λ ks. spell_format x.format (spell_features x.features (in_order spell_constraint x.constraints (in_order spell_class ks rest)))) none)
 
 -- ---- its runs are runs of the machine for projects
 
@@ -161,6 +169,7 @@ classless_run (t ∷ ts) s h =
 -- the modes in which it stands
 abbrev is_of_model : Mode → Bool
 is_of_model Begin = true
+is_of_model AfterFormat = true
 is_of_model AfterFeatures = true
 is_of_model AfterFeature = true
 is_of_model AfterFeatureComma = true
@@ -200,9 +209,13 @@ formula_stays s t (Some f) here e = by (formula.formula_of f)
     by (Some x) = (formula_classless s.features s.formula f t e, refl)
 
 stays : (m : Mode) (s : State) (t : Token) → is_of_model m ≡ true → StaysIn t (step_for goal.Model m (record s { mode = m }) t)
-stays Begin s (Id w) h = stays_if (bytes_eq w features_word) (Id w) (record s { mode = AfterFeatures }) (opens_constraint s w) (refl, refl) (stays_if (bytes_eq w constraint_word) (Id w) (record s { mode = InConstraint }) None (refl, refl) tt)
+stays Begin s (Id w) h =
+    stays_if (opens_format s w) (Id w) (record s { mode = AfterFormat }) (if bytes_eq w features_word then to AfterFeatures s else opens_constraint s w) (refl, refl)
+    (stays_if (bytes_eq w features_word) (Id w) (record s { mode = AfterFeatures }) (opens_constraint s w) (refl, refl) (stays_if (bytes_eq w constraint_word) (Id w) (record s { mode = InConstraint }) None (refl, refl) tt))
 stays Begin s End h = (refl, refl)
 stays Begin s _ h = tt
+stays AfterFormat s Semicolon h = (refl, refl)
+stays AfterFormat s _ h = tt
 stays AfterFeatures s (Id w) h = (refl, refl)
 stays AfterFeatures s _ h = tt
 stays AfterFeature s Comma h = (refl, refl)
@@ -233,7 +246,7 @@ read_classless (t ∷ ts) s n rs h e = go (λ m k g. read_classless ts m n (run_
 -- ---- the laws
 
 complete : (x : ModelTree) → run_of models_only (spell (without_classes x) (End ∷ [])) start ≡ (Some (ended (without_classes x)), roles (without_classes x) (other_token ∷ []))
-complete x = classless_run (spell (without_classes x) (End ∷ [])) start (parts_classless x.features x.constraints (End ∷ [])) ∙ text_runs (without_classes x)
+complete x = classless_run (spell (without_classes x) (End ∷ [])) start (parts_classless x.format x.features x.constraints (End ∷ [])) ∙ text_runs (without_classes x)
 
 sound : (ts : List Token) (s n : State) (rs : List Role) → run_of models_only ts start ≡ (Some s, rs) → step_for goal.Model s.mode s End ≡ Some n → (x : ModelTree) × (ts ≡ spell (without_classes x) [])
 sound ts s n rs ran ends =
@@ -267,6 +280,7 @@ formula_ending s undone =
 ending : (m : Mode) (s : State) → is_of_model m ≡ true → formula.is_done s.formula ≡ false → Ending (record s { mode = m })
 unfolding run_of
 ending Begin s h undone = record { more = End ∷ []; classless = refl; reaches = refl }
+ending AfterFormat s h undone = record { more = Semicolon ∷ (End ∷ []); classless = refl; reaches = refl }
 ending AfterFeatures s h undone = record { more = Id [] ∷ (Semicolon ∷ (End ∷ [])); classless = refl; reaches = refl }
 ending AfterFeature s h undone = record { more = Semicolon ∷ (End ∷ []); classless = refl; reaches = refl }
 ending AfterFeatureComma s h undone = record { more = Id [] ∷ (Semicolon ∷ (End ∷ [])); classless = refl; reaches = refl }
@@ -278,6 +292,7 @@ ending _ s h undone = no_case h
 -- no role waits
 none_waits : (m : Mode) (s : State) → is_of_model m ≡ true → pending_in m s ≡ []
 none_waits Begin s h = refl
+none_waits AfterFormat s h = refl
 none_waits AfterFeatures s h = refl
 none_waits AfterFeature s h = refl
 none_waits AfterFeatureComma s h = refl
@@ -305,7 +320,7 @@ goes_by_name : (s : State) → GoesByName machine.reader s → GoesByName models
 goes_by_name s g = record { name = g.name; next = g.next; is = g.is; goes = classless_step s.mode s (Id g.name) refl ∙ g.goes }
 
 -- the machine reads feature models
-pub model_laws : Reads models (reader_for goal.Model [] unnamed)
+pub model_laws : Reads models (reader_for goal.Model One [] unnamed)
 model_laws =
     record {
       grammar = record { spells = λ x. laws.grammar.spells (without_classes x); gives = λ x. laws.grammar.gives (without_classes x); settled = λ x. laws.grammar.settled (without_classes x) };
@@ -325,6 +340,6 @@ model_laws =
     }
 
 -- the model that was read
-pub model_stands : (s : State) → model_laws.stands_for s ≡ record { features = s.features; constraints = s.constraints }
+pub model_stands : (s : State) → model_laws.stands_for s ≡ record { format = s.format; features = s.features; constraints = s.constraints }
 unfolding model_laws
 model_stands s = refl

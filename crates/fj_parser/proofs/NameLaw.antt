@@ -5,6 +5,7 @@ use Rattle.cfj_model.specs.Roles.{Role, used_name, other_token, are_settled}
 use Rattle.cfj_words.specs.Tokens.{Token, Id, End}
 use Rattle.fj_parser.specs.Goals.{start_for, step_for, takes_name_for, reader_for}
 use Rattle.cfj_model.specs.PartLanguages.{names}
+use Rattle.cfj_model.specs.declared.feature_model.Format.TheVariants.{One}
 use Rattle.fj_parser.specs.Laws.{Closes, GoesByName, Reads}
 use Rattle.fj_machine.specs.Machine.{unnamed, State, emitted, pending}
 use Rattle.fj_machine.specs.Readers.{Reader, Run, run_of}
@@ -16,10 +17,10 @@ use Rattle.fj_parser.proofs.Naming.{some_name, some_name_is, name_stops}
 
 -- the machine, and its start
 abbrev machine : Reader
-machine = reader_for goal.Name [] unnamed
+machine = reader_for goal.Name One [] unnamed
 
 abbrev first : State
-first = start_for goal.Name [] unnamed
+first = start_for goal.Name One [] unnamed
 
 -- behind a name, and behind the end
 abbrev named : List ℕ → State
@@ -92,7 +93,7 @@ stops InMembers s w e = absurd (let no : ⊥ = cc e in no)
 stops m s w e = name_stops m s w e
 
 -- the machine reads names
-pub name_laws : Reads names (reader_for goal.Name [] unnamed)
+pub name_laws : Reads names (reader_for goal.Name One [] unnamed)
 name_laws =
     record {
       grammar = record { spells = λ x a b. refl; gives = λ x a b. refl; settled = λ x. refl };
@@ -105,7 +106,7 @@ name_laws =
       first = refl;
       last = λ w. refl;
       each = λ ts s n rs t ran. each ts s n rs t (reached ts s rs ran);
-      settles = λ ts s w rs ran. goal_settles goal.Name [] unnamed (λ s t. refl) ts s (name_ended w) rs ran refl;
+      settles = λ ts s w rs ran. goal_settles goal.Name One [] unnamed (λ s t. refl) ts s (name_ended w) rs ran refl;
       settled = λ ts s rs ran. settled ts s rs (reached ts s rs ran);
       named = λ ts s rs ran read. goes_by_name ts s rs (reached ts s rs ran);
       unnamed = λ s w. stops s.mode s w;

@@ -60,7 +60,8 @@ module _ {A B : Type 0} (made : A → B) (keeps : A → Bool) where
   kept_by b x xs = map made (cond b (x ∷ filter keeps xs) (filter keeps xs))
 
   -- the loop's next item is kept, or passed over
-  pub kept_taken : (xs : List A) (i : ℕ) (x : A) (y : B) (before after all : List B) → slice_get xs i ≡ Some x → keeps x ≡ true → y ≡ made x → after ≡ before ++ y ∷ [] → before ++ kept (drop i xs) ≡ all → after ++ kept (drop (i + 1) xs) ≡ all
+  pub kept_taken : (xs : List A) (i : ℕ) (x : A) (y : B) (before after all : List B) → slice_get xs i ≡ Some x → keeps x ≡ true → y ≡ made x
+      → after ≡ before ++ y ∷ [] → before ++ kept (drop i xs) ≡ all → after ++ kept (drop (i + 1) xs) ≡ all
   kept_taken xs i x y before after all here passes same push e =
       let rest = drop_there xs i x here in
       ap (λ w. w ++ kept (drop (i + 1) xs)) push
@@ -70,7 +71,8 @@ module _ {A B : Type 0} (made : A → B) (keeps : A → Bool) where
       ∙ ap (λ w. before ++ kept w) (sym rest)
       ∙ e
 
-  pub kept_passed : (xs : List A) (i : ℕ) (x : A) (before all : List B) → slice_get xs i ≡ Some x → keeps x ≡ false → before ++ kept (drop i xs) ≡ all → before ++ kept (drop (i + 1) xs) ≡ all
+  pub kept_passed : (xs : List A) (i : ℕ) (x : A) (before all : List B) → slice_get xs i ≡ Some x → keeps x ≡ false → before ++ kept (drop i xs) ≡ all
+      → before ++ kept (drop (i + 1) xs) ≡ all
   kept_passed xs i x before all here passes e =
       let rest = drop_there xs i x here in
       ap (λ b. before ++ kept_by b x (drop (i + 1) xs)) (sym passes) ∙ ap (λ w. before ++ kept w) (sym rest) ∙ e
@@ -94,10 +96,12 @@ module _ {A B : Type 0} (made : A → B) (keeps : A → Bool) where
         | false ↦ rw (sum_by-cons f x xs) (less_with (f x) (sum_by g (kept xs)) (sum_by f xs) less)
       ]
 
-  pub small_kept : (f : A → ℕ) (g : B → ℕ) → ((x : A) → g (made x) ≤ f x) → (most : ℕ) (xs : List A) → nat_le (sum_by f xs) most ≡ true → nat_le (sum_by g (kept xs)) most ≡ true
+  pub small_kept : (f : A → ℕ) (g : B → ℕ) → ((x : A) → g (made x) ≤ f x) → (most : ℕ) (xs : List A) → nat_le (sum_by f xs) most ≡ true
+      → nat_le (sum_by g (kept xs)) most ≡ true
   small_kept f g h most xs e = at_most (sum_by g (kept xs)) (sum_by f xs) most (sum_kept f g h xs) e
 
-  new_kept : (name : B → List ℕ) (xs : List A) (fewer names : List (List ℕ)) → IsPart fewer names → are_new names (map (λ x. name (made x)) xs) ≡ true → are_new fewer (map name (kept xs)) ≡ true
+  new_kept : (name : B → List ℕ) (xs : List A) (fewer names : List (List ℕ)) → IsPart fewer names → are_new names (map (λ x. name (made x)) xs) ≡ true
+      → are_new fewer (map name (kept xs)) ≡ true
   new_kept name [] fewer names h e = refl
   new_kept name (x ∷ xs) fewer names h e =
       let n = name (made x) in
@@ -114,7 +118,8 @@ module _ {A B : Type 0} (made : A → B) (keeps : A → Bool) where
   distinct_kept name xs e = new_kept name xs [] [] (λ n none. none) e
 
   -- what each item's pair of a name and an alt has, that of each kept item has
-  pairs_kept : (named : B → List ℕ × ℕ) (p : List ℕ × ℕ → Bool) (xs : List A) → list_all p (map (λ x. named (made x)) xs) ≡ true → list_all p (map named (kept xs)) ≡ true
+  pairs_kept : (named : B → List ℕ × ℕ) (p : List ℕ × ℕ → Bool) (xs : List A) → list_all p (map (λ x. named (made x)) xs) ≡ true
+      → list_all p (map named (kept xs)) ≡ true
   pairs_kept named p [] e = refl
   pairs_kept named p (x ∷ xs) e =
       let here = p (named (made x)) in
@@ -138,7 +143,8 @@ module _ {A B : Type 0} (made : A → B) (keeps : A → Bool) where
         | false ↦ rest
       ]
 
-  rise_above : (slot : B → ℕ) (xs : List A) (low least : ℕ) → low ≤ least → rise_from least (map (λ x. slot (made x)) xs) ≡ true → rise_from low (map slot (kept xs)) ≡ true
+  rise_above : (slot : B → ℕ) (xs : List A) (low least : ℕ) → low ≤ least → rise_from least (map (λ x. slot (made x)) xs) ≡ true
+      → rise_from low (map slot (kept xs)) ≡ true
   rise_above slot [] low least le e = refl
   rise_above slot (x ∷ xs) low least le e =
       let n = slot (made x) in
@@ -174,7 +180,8 @@ module _ {A B : Type 0} (made : A → B) (keeps : A → Bool) where
       ]
 
 -- what is kept of a list of views, by what they are views of
-pub kept_of_map : {A B C : Type 0} (made : A → B) (keeps : A → Bool) (view : C → A) (xs : List C) → map made (filter keeps (map view xs)) ≡ map (λ x. made (view x)) (filter (λ x. keeps (view x)) xs)
+pub kept_of_map : {A B C : Type 0} (made : A → B) (keeps : A → Bool) (view : C → A) (xs : List C)
+    → map made (filter keeps (map view xs)) ≡ map (λ x. made (view x)) (filter (λ x. keeps (view x)) xs)
 kept_of_map made keeps view [] = refl
 kept_of_map made keeps view (x ∷ xs) = go (keeps (view x)) (kept_of_map made keeps view xs)
   where

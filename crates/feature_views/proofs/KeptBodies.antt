@@ -4,10 +4,13 @@ use Rattle.std.specs.List.{filter, flat_map, list_all, sum_by}
 use Rattle.std.proofs.lemmas.Bool.{and_parts, and_from}
 use Rattle.std.proofs.lemmas.List.Folds.{list_all-map, flat_map-map}
 use Rattle.std.proofs.lemmas.List.Sums.{sum_by-cons}
+use Rattle.cfj_model.specs.Coloring.{Palette}
 use Rattle.cfj_model.specs.Expressions.{of_arg, node_count_step, node_count, slots_step, slots, Nesting, receiver_depth, greatest, nesting_step, nesting_of_arg, nest, is_named_step, is_named_arg, is_named, is_bare_step, is_bare_arg, is_bare}
 use Rattle.cfj_words.specs.Names.{is_short_identifier}
 use Rattle.cfj_model.specs.Projection.{presence_of, projected_expr}
 use Rattle.cfj_logic.specs.Selections.{Chosen}
+use Rattle.cfj_logic.specs.Sides.{Sides}
+use Rattle.cfj_model.specs.declared.feature_model.Format.TheVariants.{One}
 use Rattle.cfj_model.specs.declared.expr.Arg.{Arg}
 use Rattle.cfj_model.specs.declared.expr.Expr.{Expr}
 use Rattle.cfj_model.specs.declared.expr.Expr.TheFolds.{fold-Expr}
@@ -16,6 +19,10 @@ use Rattle.cfj_model.proofs.ExprCases.{Proved, args_of, by_cases, fold_var, fold
 use Rattle.feature_views.proofs.Kept.{kept, kept_of_map, all_kept, all_made, sum_kept}
 use Rattle.feature_views.proofs.SelectedBodies.{arg_present, projected_arg, projected_args, projected_var, projected_get, projected_call, projected_new, projected_cast}
 use Rattle.feature_views.proofs.Sublists.{IsSublist, end, both, sublist_append, sublist_none}
+
+-- what marks may be in a variant, which has no features: there are none
+abbrev pub no_features : Palette
+no_features = record { features = 0; format = One }
 
 -- the slots, counts and depths of what is kept of a list
 module _ {A B : Type 0} (made : A → B) (keeps : A → Bool) where
@@ -26,7 +33,8 @@ module _ {A B : Type 0} (made : A → B) (keeps : A → Bool) where
       let here = h x in
       elim (keeps x) as (λ b. greatest (map g (map made (if b then x ∷ filter keeps xs else filter keeps xs))) ≤ greatest (map f (x ∷ xs))) [ true ↦ omega arith | false ↦ omega arith ]
 
-  slots_kept : (f : A → List ℕ) (g : B → List ℕ) → ((x : A) → IsSublist (g (made x)) (f x)) → (xs : List A) → IsSublist (flat_map g (kept made keeps xs)) (flat_map f xs)
+  slots_kept : (f : A → List ℕ) (g : B → List ℕ) → ((x : A) → IsSublist (g (made x)) (f x)) → (xs : List A)
+      → IsSublist (flat_map g (kept made keeps xs)) (flat_map f xs)
   slots_kept f g h [] = end
   slots_kept f g h (x ∷ xs) =
       let less = slots_kept f g h xs in
@@ -44,7 +52,7 @@ map-map f h [] = refl
 map-map f h (x ∷ xs) = ap (λ ys. f (h x) ∷ ys) (map-map f h xs)
 
 -- the arguments that are kept, by what is shown of each
-module _ (s : Chosen) (around : ℕ) (P : Expr → Type 0) where
+module _ (s : Chosen) (around : Sides) (P : Expr → Type 0) where
   abbrev kept_arg : Proved P → Arg
   kept_arg y = projected_arg s around y.0
 
@@ -55,59 +63,63 @@ module _ (s : Chosen) (around : ℕ) (P : Expr → Type 0) where
   args_kept ys = kept_of_map (projected_arg s around) (arg_present s around) (λ (y : Proved P). y.0) ys
 
 -- names, and known marks
-module _ (features : ℕ) where
+module _ (palette : Palette) where
   abbrev arg_named : Arg → Bool
-  arg_named a = is_named_arg features (record { colors = a.colors; expr = is_named features a.expr })
+  arg_named a = is_named_arg palette (record { colors = a.colors; expr = is_named palette a.expr })
 
-  named_call : (slot : ℕ) (on : Expr) (method : List ℕ) (args : List Arg) → is_named features (e.Call slot on method args) ≡ (is_named features on && is_short_identifier method && list_all arg_named args)
+  named_call : (slot : ℕ) (on : Expr) (method : List ℕ) (args : List Arg)
+      → is_named palette (e.Call slot on method args) ≡ (is_named palette on && is_short_identifier method && list_all arg_named args)
   named_call slot on method args =
-      fold_call Bool Bool is_named_step (is_named_arg features) slot on method args
-      ∙ ap (λ b. is_named features on && is_short_identifier method && b) (list_all-map (λ b. b) arg_named args)
+      fold_call Bool Bool is_named_step (is_named_arg palette) slot on method args
+      ∙ ap (λ b. is_named palette on && is_short_identifier method && b) (list_all-map (λ b. b) arg_named args)
 
-  named_new : (slot : ℕ) (class : List ℕ) (args : List Arg) → is_named features (e.New slot class args) ≡ (is_short_identifier class && list_all arg_named args)
+  named_new : (slot : ℕ) (class : List ℕ) (args : List Arg) → is_named palette (e.New slot class args) ≡ (is_short_identifier class && list_all arg_named args)
   named_new slot class args =
-      fold_new Bool Bool is_named_step (is_named_arg features) slot class args
+      fold_new Bool Bool is_named_step (is_named_arg palette) slot class args
       ∙ ap (λ b. is_short_identifier class && b) (list_all-map (λ b. b) arg_named args)
 
-module _ (s : Chosen) (features : ℕ) where
+module _ (s : Chosen) (palette : Palette) where
   abbrev StaysNamed : Expr → Type 0
-  StaysNamed x = (around : ℕ) → is_named features x ≡ true → is_named 0 (projected_expr s around x) ≡ true
+  StaysNamed x = (around : Sides) → is_named palette x ≡ true → is_named no_features (projected_expr s around x) ≡ true
 
-  args_named : (around : ℕ) (ys : List (Proved StaysNamed)) → list_all (arg_named features) (args_of StaysNamed ys) ≡ true → list_all (arg_named 0) (projected_args s around (args_of StaysNamed ys)) ≡ true
+  args_named : (around : Sides) (ys : List (Proved StaysNamed)) → list_all (arg_named palette) (args_of StaysNamed ys) ≡ true
+      → list_all (arg_named no_features) (projected_args s around (args_of StaysNamed ys)) ≡ true
   args_named around ys all =
-      ap (list_all (arg_named 0)) (args_kept s around StaysNamed ys)
-      ∙ all_kept (kept_arg s around StaysNamed) (keeps_arg s around StaysNamed) (λ (y : Proved StaysNamed). arg_named features y.0) (arg_named 0)
+      ap (list_all (arg_named no_features)) (args_kept s around StaysNamed ys)
+      ∙ all_kept (kept_arg s around StaysNamed) (keeps_arg s around StaysNamed) (λ (y : Proved StaysNamed). arg_named palette y.0) (arg_named no_features)
       (λ y here. y.1 (presence_of around y.0.colors) (and_parts _ _ here).1)
       ys
-      (sym (list_all-map (arg_named features) (λ (y : Proved StaysNamed). y.0) ys) ∙ all)
+      (sym (list_all-map (arg_named palette) (λ (y : Proved StaysNamed). y.0) ys) ∙ all)
 
   pub stays_named : (x : Expr) → StaysNamed x
   stays_named = by_cases StaysNamed (record {
     var_case = λ slot name around h.
-        ap (is_named 0) (projected_var s around slot name)
-        ∙ fold_var Bool Bool is_named_step (is_named_arg 0) slot name
-        ∙ sym (fold_var Bool Bool is_named_step (is_named_arg features) slot name)
+        ap (is_named no_features) (projected_var s around slot name)
+        ∙ fold_var Bool Bool is_named_step (is_named_arg no_features) slot name
+        ∙ sym (fold_var Bool Bool is_named_step (is_named_arg palette) slot name)
         ∙ h;
     get_case = λ slot on part field around h.
-        let parts = and_parts (is_named features on) (is_short_identifier field) (sym (fold_get Bool Bool is_named_step (is_named_arg features) slot on field) ∙ h) in
-        ap (is_named 0) (projected_get s around slot on field)
-        ∙ fold_get Bool Bool is_named_step (is_named_arg 0) slot (projected_expr s around on) field
+        let parts =
+        and_parts (is_named palette on) (is_short_identifier field) (sym (fold_get Bool Bool is_named_step (is_named_arg palette) slot on field) ∙ h) in
+        ap (is_named no_features) (projected_get s around slot on field)
+        ∙ fold_get Bool Bool is_named_step (is_named_arg no_features) slot (projected_expr s around on) field
         ∙ and_from _ _ (part around parts.0) parts.1;
     call_case = λ slot on part method ys around h.
-        let outer = and_parts _ _ (sym (named_call features slot on method (args_of StaysNamed ys)) ∙ h) in
+        let outer = and_parts _ _ (sym (named_call palette slot on method (args_of StaysNamed ys)) ∙ h) in
         let inner = and_parts _ _ outer.0 in
-        ap (is_named 0) (projected_call s around slot on method (args_of StaysNamed ys))
-        ∙ named_call 0 slot (projected_expr s around on) method (projected_args s around (args_of StaysNamed ys))
+        ap (is_named no_features) (projected_call s around slot on method (args_of StaysNamed ys))
+        ∙ named_call no_features slot (projected_expr s around on) method (projected_args s around (args_of StaysNamed ys))
         ∙ and_from _ _ (and_from _ _ (part around inner.0) inner.1) (args_named around ys outer.1);
     new_case = λ slot class ys around h.
-        let parts = and_parts _ _ (sym (named_new features slot class (args_of StaysNamed ys)) ∙ h) in
-        ap (is_named 0) (projected_new s around slot class (args_of StaysNamed ys))
-        ∙ named_new 0 slot class (projected_args s around (args_of StaysNamed ys))
+        let parts = and_parts _ _ (sym (named_new palette slot class (args_of StaysNamed ys)) ∙ h) in
+        ap (is_named no_features) (projected_new s around slot class (args_of StaysNamed ys))
+        ∙ named_new no_features slot class (projected_args s around (args_of StaysNamed ys))
         ∙ and_from _ _ parts.0 (args_named around ys parts.1);
     cast_case = λ slot class on part around h.
-        let parts = and_parts (is_short_identifier class) (is_named features on) (sym (fold_cast Bool Bool is_named_step (is_named_arg features) slot class on) ∙ h) in
-        ap (is_named 0) (projected_cast s around slot class on)
-        ∙ fold_cast Bool Bool is_named_step (is_named_arg 0) slot class (projected_expr s around on)
+        let parts =
+        and_parts (is_short_identifier class) (is_named palette on) (sym (fold_cast Bool Bool is_named_step (is_named_arg palette) slot class on) ∙ h) in
+        ap (is_named no_features) (projected_cast s around slot class on)
+        ∙ fold_cast Bool Bool is_named_step (is_named_arg no_features) slot class (projected_expr s around on)
         ∙ and_from _ _ parts.0 (part around parts.1);
   })
 
@@ -117,9 +129,9 @@ arg_bare a = is_bare_arg (record { colors = a.colors; expr = is_bare a.expr })
 
 module _ (s : Chosen) where
   abbrev BecomesBare : Expr → Type 0
-  BecomesBare x = (around : ℕ) → is_bare (projected_expr s around x) ≡ true
+  BecomesBare x = (around : Sides) → is_bare (projected_expr s around x) ≡ true
 
-  args_bare : (around : ℕ) (ys : List (Proved BecomesBare)) → list_all (λ b. b) (map arg_bare (projected_args s around (args_of BecomesBare ys))) ≡ true
+  args_bare : (around : Sides) (ys : List (Proved BecomesBare)) → list_all (λ b. b) (map arg_bare (projected_args s around (args_of BecomesBare ys))) ≡ true
   args_bare around ys =
       list_all-map (λ b. b) arg_bare (projected_args s around (args_of BecomesBare ys))
       ∙ ap (list_all arg_bare) (args_kept s around BecomesBare ys)
@@ -148,12 +160,13 @@ module _ (s : Chosen) where
 
   -- nodes
   abbrev LosesNodes : Expr → Type 0
-  LosesNodes x = (around : ℕ) → node_count (projected_expr s around x) ≤ node_count x
+  LosesNodes x = (around : Sides) → node_count (projected_expr s around x) ≤ node_count x
 
   abbrev arg_nodes : List Arg → ℕ
   arg_nodes args = sum_by (λ n. n) (map (λ (a : Arg). node_count a.expr) args)
 
-  nodes_less : (around : ℕ) (ys : List (Proved LosesNodes)) → arg_nodes (projected_args s around (args_of LosesNodes ys)) ≤ arg_nodes (args_of LosesNodes ys)
+  nodes_less : (around : Sides) (ys : List (Proved LosesNodes))
+      → arg_nodes (projected_args s around (args_of LosesNodes ys)) ≤ arg_nodes (args_of LosesNodes ys)
   nodes_less around ys =
       let count : Arg → ℕ = λ a. node_count a.expr in
       let fewer = sum_by-map (λ n. n) count (projected_args s around (args_of LosesNodes ys)) ∙ ap (sum_by count) (args_kept s around LosesNodes ys) in
@@ -198,7 +211,8 @@ module _ (s : Chosen) where
   receiver_shallower : (x y : Expr) → IsShallower x y → receiver_depth (nesting x) ≤ receiver_depth (nesting y)
   receiver_shallower x y h = go (nesting y).is_cast (ap (λ b. if b then 1 + nest x else nest x) h.alike) h.depth
     where
-      go : (b : Bool) → receiver_depth (nesting x) ≡ (if b then 1 + nest x else nest x) → nest x ≤ nest y → receiver_depth (nesting x) ≤ (if b then 1 + nest y else nest y)
+      go : (b : Bool) → receiver_depth (nesting x) ≡ (if b then 1 + nest x else nest x) → nest x ≤ nest y
+          → receiver_depth (nesting x) ≤ (if b then 1 + nest y else nest y)
       go true e less = omega arith
       go false e less = omega arith
 
@@ -210,12 +224,13 @@ module _ (s : Chosen) where
       record { alike = ap (λ (k : Nesting). k.is_cast) is ∙ alike ∙ sym (ap (λ (k : Nesting). k.is_cast) was); depth = omega arith }
 
   abbrev StaysShallow : Expr → Type 0
-  StaysShallow x = (around : ℕ) → IsShallower (projected_expr s around x) x
+  StaysShallow x = (around : Sides) → IsShallower (projected_expr s around x) x
 
   abbrev arg_nest : Arg → ℕ
   arg_nest a = nest a.expr
 
-  args_shallower : (around : ℕ) (ys : List (Proved StaysShallow)) → greatest (map arg_nest (projected_args s around (args_of StaysShallow ys))) ≤ greatest (map arg_nest (args_of StaysShallow ys))
+  args_shallower : (around : Sides) (ys : List (Proved StaysShallow))
+      → greatest (map arg_nest (projected_args s around (args_of StaysShallow ys))) ≤ greatest (map arg_nest (args_of StaysShallow ys))
   args_shallower around ys =
       let fewer = ap (λ args. greatest (map arg_nest args)) (args_kept s around StaysShallow ys) in
       let all = ap greatest (map-map arg_nest (λ (y : Proved StaysShallow). y.0) ys) in
@@ -253,12 +268,13 @@ module _ (s : Chosen) where
 
   -- slots
   abbrev KeepsSlots : Expr → Type 0
-  KeepsSlots x = (around : ℕ) → IsSublist (slots (projected_expr s around x)) (slots x)
+  KeepsSlots x = (around : Sides) → IsSublist (slots (projected_expr s around x)) (slots x)
 
   abbrev arg_slots : Arg → List ℕ
   arg_slots a = slots a.expr
 
-  args_slots : (around : ℕ) (ys : List (Proved KeepsSlots)) → IsSublist (flat_map (λ t. t) (map arg_slots (projected_args s around (args_of KeepsSlots ys)))) (flat_map (λ t. t) (map arg_slots (args_of KeepsSlots ys)))
+  args_slots : (around : Sides) (ys : List (Proved KeepsSlots))
+      → IsSublist (flat_map (λ t. t) (map arg_slots (projected_args s around (args_of KeepsSlots ys)))) (flat_map (λ t. t) (map arg_slots (args_of KeepsSlots ys)))
   args_slots around ys =
       let is = flat_map-map (λ t. t) arg_slots (projected_args s around (args_of KeepsSlots ys)) ∙ ap (flat_map arg_slots) (args_kept s around KeepsSlots ys) in
       let was = flat_map-map (λ t. t) arg_slots (args_of KeepsSlots ys) ∙ flat_map-map arg_slots (λ (y : Proved KeepsSlots). y.0) ys in

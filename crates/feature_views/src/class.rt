@@ -7,7 +7,7 @@ use crate::node::selected;
 use cfj_model::{Class, Colors, Constructor, Selection};
 use std::alloc::{AllocError, Global};
 
-/// A present class with its present nodes. The class's colours are selected, so each node is tested for its own alone.
+/// A present class with its present nodes. The class's marks hold, so each node is tested for its own alone.
 pub fn class_of(alloc: Global, class: &Class, selection: &Selection) -> Result<Class, AllocError>
     requires { is_present selection.now class.now.colors ≡ true }
     ensures { IfOk result (λ kept. kept ≡ projected_class selection.now class.now) }

@@ -55,7 +55,7 @@ pub fn selected_expr(alloc: Global, expr: &Expr, selection: &Selection) -> Resul
     }
 }
 
-// The arguments whose own colours are all selected, in order, without their colours.
+// The arguments whose own marks all hold, in order, without their colours.
 #[cycle(selected)]
 fn selected_args(
     alloc: Global,

@@ -1,7 +1,8 @@
 //! Nodes in lists, of which a variant keeps those that are present.
 
-ghost use Rattle.std.specs.Prelude.{◌≡◌, ℕ, IfOk};
+ghost use Rattle.std.specs.Prelude.{◌≡◌, IfOk};
 ghost use Rattle.cfj_logic.specs.Selections.{Chosen};
+ghost use Rattle.cfj_logic.specs.Sides.{Sides};
 ghost use Rattle.feature_views.specs.Selected.{selected_nodes};
 
 use crate::expr::selected_expr;
@@ -10,13 +11,13 @@ use std::alloc::{AllocError, Global};
 
 /// A part of a class that may be marked by itself.
 pub trait Node {
-    /// Its colours, as a set of bits.
-    ghost colors_of: { Self → ℕ };
+    /// Its colours.
+    ghost colors_of: { Self → Sides };
 
     /// The node with its selected parts, without its colours.
     ghost kept_of: { Chosen → Self → Self };
 
-    /// The features it is marked with.
+    /// What it is marked with.
     fn colors(&self) -> Colors
         ensures { result ≡ colors_of self.now };
 
@@ -25,7 +26,7 @@ pub trait Node {
         ensures { IfOk result (λ kept. kept ≡ kept_of selection.now self.now) };
 }
 
-/// The nodes whose own colours are all selected, in order, with their selected parts and without their colours.
+/// The nodes whose own marks all hold, in order, with their selected parts and without their colours.
 pub fn selected<N: Node + Drop>(
     alloc: Global,
     nodes: &Items<N>,

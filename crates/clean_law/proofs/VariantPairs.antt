@@ -7,6 +7,7 @@ use Rattle.cfj_model.specs.Judging.{Pair, insert_ranked, pairs_of, rank}
 use Rattle.cfj_model.specs.ProductLines.{ProductLine}
 use Rattle.cfj_model.specs.Projection.{bare_field, bare_param, is_present, presence_of, projected, projected_class, projected_expr, projected_method}
 use Rattle.cfj_logic.specs.Selections.{Chosen}
+use Rattle.cfj_logic.specs.Sides.{Sides}
 use Rattle.cfj_model.specs.declared.class.Class.{Class}
 use Rattle.cfj_model.specs.declared.class.Method.{Method}
 use Rattle.cfj_model.specs.declared.expr.Arg.{Arg}
@@ -27,9 +28,9 @@ use Rattle.clean_law.proofs.Among.{AreAmong, among_as, among_append, among_behin
 module _ (s : Chosen) (at : ℕ → Site) where
   -- whatever the node round it judges at its root
   abbrev KeepsPairs : Expr → Type 0
-  KeepsPairs x = (around : ℕ) (more : List Rule) → AreAmong (node_pairs at (projected_expr s around x) more) (node_pairs at x more)
+  KeepsPairs x = (around : Sides) (more : List Rule) → AreAmong (node_pairs at (projected_expr s around x) more) (node_pairs at x more)
 
-  arg_among : (around : ℕ) (rule : Rule) (ys : List (Proved KeepsPairs)) → AreAmong (arg_pairs at rule (projected_args s around (args_of KeepsPairs ys))) (arg_pairs at rule (args_of KeepsPairs ys))
+  arg_among : (around : Sides) (rule : Rule) (ys : List (Proved KeepsPairs)) → AreAmong (arg_pairs at rule (projected_args s around (args_of KeepsPairs ys))) (arg_pairs at rule (args_of KeepsPairs ys))
   arg_among around rule ys =
       let made : Proved KeepsPairs → Arg = λ y. projected_arg s around y.0 in
       let keeps : Proved KeepsPairs → Bool = λ y. arg_present s around y.0 in

@@ -5,7 +5,7 @@ use Rattle.std.specs.List.{list_all}
 use Rattle.std.specs.Str.{bytes_eq}
 use Rattle.std.proofs.lemmas.Bool.{and_parts, and_from, not-true, not-false, false_from_ne_true}
 use Rattle.cfj_words.specs.Names.{is_short_identifier}
-use Rattle.cfj_model.specs.Coloring.{are_known}
+use Rattle.cfj_model.specs.Coloring.{Palette, are_known, palette_of}
 use Rattle.cfj_model.specs.Members.{field_alts_rise, method_alts_rise}
 use Rattle.cfj_model.specs.ProductLines.{ProductLine, IsProject, object, most_fields, most_methods, are_distinct, is_field, are_fields as are_kept_fields, is_ctor, is_method as is_kept_method, are_methods, is_class}
 use Rattle.cfj_words.specs.Lists.{Has}
@@ -31,44 +31,44 @@ pub record HasDistinctNames (p : Table) : Type 0 where
   pub classes : are_distinct (map (λ (k : Class). k.name) p) ≡ true
   pub no_object : (k : Class) → Has p k → bytes_eq k.name object ≡ false
 
-module _ (n : ℕ) (k : Class) (h : is_class n k ≡ true) where
+module _ (palette : Palette) (k : Class) (h : is_class palette k ≡ true) where
   abbrev named : Bool
   named = is_short_identifier k.name && not (bytes_eq k.name object)
 
   abbrev above : Bool
-  above = named && are_known n k.colors && is_short_identifier k.parent
+  above = named && are_known palette k.colors && is_short_identifier k.parent
 
-  members : ((above && are_kept_fields n k.fields && is_ctor n k.ctor) ≡ true) × (are_methods n k.methods ≡ true)
+  members : ((above && are_kept_fields palette k.fields && is_ctor palette k.ctor) ≡ true) × (are_methods palette k.methods ≡ true)
   unfolding is_class
-  members = and_parts (above && are_kept_fields n k.fields && is_ctor n k.ctor) (are_methods n k.methods) h
+  members = and_parts (above && are_kept_fields palette k.fields && is_ctor palette k.ctor) (are_methods palette k.methods) h
 
-  fields : (above ≡ true) × (are_kept_fields n k.fields ≡ true)
-  fields = and_parts above (are_kept_fields n k.fields) (and_parts (above && are_kept_fields n k.fields) (is_ctor n k.ctor) members.0).0
+  fields : (above ≡ true) × (are_kept_fields palette k.fields ≡ true)
+  fields = and_parts above (are_kept_fields palette k.fields) (and_parts (above && are_kept_fields palette k.fields) (is_ctor palette k.ctor) members.0).0
 
   no_object_class : bytes_eq k.name object ≡ false
   no_object_class =
-      let known : (named && are_known n k.colors) ≡ true = (and_parts (named && are_known n k.colors) (is_short_identifier k.parent) fields.0).0 in
-      not-true (bytes_eq k.name object) (and_parts (is_short_identifier k.name) (not (bytes_eq k.name object)) (and_parts named (are_known n k.colors) known).0).1
+      let known : (named && are_known palette k.colors) ≡ true = (and_parts (named && are_known palette k.colors) (is_short_identifier k.parent) fields.0).0 in
+      not-true (bytes_eq k.name object) (and_parts (is_short_identifier k.name) (not (bytes_eq k.name object)) (and_parts named (are_known palette k.colors) known).0).1
 
   rising_alts : DoAltsRise k
   rising_alts =
       record {
         fields = (and_parts (nat_le (length k.fields) most_fields) (field_alts_rise k.fields)
-            (and_parts (nat_le (length k.fields) most_fields && field_alts_rise k.fields) (list_all (is_field n) k.fields) fields.1).0).1;
+            (and_parts (nat_le (length k.fields) most_fields && field_alts_rise k.fields) (list_all (is_field palette) k.fields) fields.1).0).1;
         methods = (and_parts (nat_le (length k.methods) most_methods) (method_alts_rise k.methods)
-            (and_parts (nat_le (length k.methods) most_methods && method_alts_rise k.methods) (list_all (is_kept_method n) k.methods) members.1).0).1;
+            (and_parts (nat_le (length k.methods) most_methods && method_alts_rise k.methods) (list_all (is_kept_method palette) k.methods) members.1).0).1;
       }
 
-each_class : (q : ProductLine) → IsProject q → (k : Class) → Has q.classes k → is_class (length q.model.features) k ≡ true
-each_class q project k h = all_has (is_class (length q.model.features)) q.classes project.each_class k h
+each_class : (q : ProductLine) → IsProject q → (k : Class) → Has q.classes k → is_class (palette_of q.model) k ≡ true
+each_class q project k h = all_has (is_class (palette_of q.model)) q.classes project.each_class k h
 
 -- A project's names are distinct so.
 pub names_kept : (q : ProductLine) → IsProject q → HasDistinctNames q.classes
-names_kept q project = record { classes = project.classes_distinct; no_object = λ k h. no_object_class (length q.model.features) k (each_class q project k h) }
+names_kept q project = record { classes = project.classes_distinct; no_object = λ k h. no_object_class (palette_of q.model) k (each_class q project k h) }
 
 -- The alts of a project's members rise.
 pub alts_kept : (q : ProductLine) → IsProject q → (k : Class) → Has q.classes k → DoAltsRise k
-alts_kept q project k h = rising_alts (length q.model.features) k (each_class q project k h)
+alts_kept q project k h = rising_alts (palette_of q.model) k (each_class q project k h)
 
 pub found_by_name : (p : Table) → HasDistinctNames p → (k : Class) → Has p k → declared p k.name ≡ Some k
 found_by_name p names k h = find_distinct (λ (k : Class). k.name) p names.classes k h k.name refl

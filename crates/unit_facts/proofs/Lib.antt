@@ -1,3 +1,4 @@
+pub mod Alike
 pub mod ClauseCodes
 pub mod FewClauses
 pub mod OfModel

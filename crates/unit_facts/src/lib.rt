@@ -10,4 +10,4 @@ mod laws;
 
 pub use entry::{Entry, Verdict};
 pub use findings::findings_of;
-pub use laws::decides_few_features;
+pub use laws::{decides_few_features, format_changes_nothing};

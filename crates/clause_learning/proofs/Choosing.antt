@@ -1,6 +1,7 @@
 -- Sets of features by their values.
-use Rattle.std.proofs.Common.{◌≡◌, ◌≢◌, ℕ, ◌+◌, ◌^◌, ◌<◌, ◌≤◌, ◌⊎◌, inl, inr, Bool, true, false, not, List, length, get_or, Option, Some, None, eqb, bit_and, bit_or, refl, sym, ◌∙◌, ap, subst, arith, is_none}
+use Rattle.std.proofs.Common.{◌≡◌, ◌≢◌, ℕ, ◌+◌, ◌^◌, ◌<◌, ◌≤◌, ◌⊎◌, inl, inr, Bool, true, false, not, List, length, get_or, Option, Some, None, eqb, ◌&&◌, nat_lt, bit_and, bit_or, refl, sym, ◌∙◌, ap, subst, arith}
 use Rattle.std.proofs.lemmas.Bool.Decides.{eqb_tells}
+use Rattle.std.proofs.lemmas.Bool.{lt-ltb}
 use Rattle.std.proofs.lemmas.Nat.{or_lt}
 use Rattle.std.proofs.Math.Pow.{pow-lt}
 use Rattle.cfj_logic.specs.declared.clauses.Literal.{Literal}
@@ -9,16 +10,11 @@ use Rattle.cfj_logic.specs.Sides.{Sides, is_over}
 use Rattle.cfj_words.specs.Lists.{Has}
 use Rattle.cfj_logic.specs.UnitClauses.{Values, value_of, IsFalse}
 use Rattle.cfj_logic.specs.Logs.{literals}
-use Rattle.cfj_logic.proofs.FeatureBits.{has_bit_same, has_bit_other, has_bit_none}
+use Rattle.cfj_logic.proofs.FeatureBits.{has_bit_same, has_bit_other, has_bit_none, apart}
 use Rattle.unit_propagation.proofs.Members.{lt_or_ge}
 use Rattle.refutation_check.proofs.ClauseLiterals.{side, literals_has, literals_in}
 use Rattle.clause_learning.specs.Decided.{IsValued}
-use Rattle.clause_learning.specs.Denials.{IsMarked, IsDenial, is_value, marked_value}
-
--- of the features below a number the set has those with this value, and no other
-pub record Gathers (b : Bool) (n i : ℕ) (w : ℕ → Option Bool) : Type 0 where
-  pub below : (f : ℕ) → f < i → has_bit n f ≡ is_value b (w f)
-  pub past : (f : ℕ) → i ≤ f → has_bit n f ≡ false
+use Rattle.clause_learning.specs.Denials.{IsMarked, Gathers, IsDenial, is_value, marked_value}
 
 pub gathers_none : (b : Bool) (w : ℕ → Option Bool) → Gathers b 0 0 w
 gathers_none b w = record { below = λ f lt. absurd (omega arith); past = λ f le. has_bit_none f }
@@ -111,13 +107,16 @@ denial_is n vs marks c few g h over once = record { over = over; once = once; de
 
 -- ---- the first feature without a value
 
-pub valued_next : (vs : Values) (k : ℕ) (v : Option Bool) → ((x : ℕ) → x < k → IsValued vs x) → value_of vs k ≡ v → is_none v ≡ false → (x : ℕ) → x < k + 1 → IsValued vs x
-valued_next vs k v all is some x lt = go (lt_or_ge x k)
+pub valued_next : (vs : Values) (k : ℕ) → ((x : ℕ) → x < k → IsValued vs x) → IsValued vs k → (x : ℕ) → x < k + 1 → IsValued vs x
+valued_next vs k all now x lt = go (lt_or_ge x k)
   where
-    there : (w : Option Bool) → value_of vs k ≡ w → is_none w ≡ false → IsValued vs k
-    there None e s = absurd (let bad : ⊥ = cc s in bad)
-    there (Some b) e s = (b, e)
-
     go : (x < k) ⊎ (k ≤ x) → IsValued vs x
     go (inl below) = all x below
-    go (inr le) = let same : k ≡ x = omega (arith, lt, le) in subst (IsValued vs) same (there v is some)
+    go (inr le) = let same : k ≡ x = omega (arith, lt, le) in subst (IsValued vs) same now
+
+pub denial_found : (n i : ℕ) (vs : Values) (marks : List Bool) (on off : ℕ) → n ≤ 128 → i ≡ n → Gathers false on i (marked_value marks vs) → Gathers true off i (marked_value marks vs) → on < 2 ^ n → off < 2 ^ n →
+    IsDenial n vs marks (record { on = on; off = off })
+denial_found n i vs marks on off few end g h on_small off_small =
+    denial_is n vs marks (record { on = on; off = off }) few (subst (λ k. Gathers false on k (marked_value marks vs)) end g) (subst (λ k. Gathers true off k (marked_value marks vs)) end h)
+    (ap (λ b. b && nat_lt off (2 ^ n)) (lt-ltb on (2 ^ n) on_small) ∙ lt-ltb off (2 ^ n) off_small)
+    (apart on off (λ f x y. both_values on off i f (marked_value marks vs) g h x y))

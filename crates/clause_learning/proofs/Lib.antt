@@ -1,4 +1,6 @@
 pub mod Choosing
+pub mod Leaving
 pub mod Marking
+pub mod Resolving
 pub mod Standing
 pub mod Valuing

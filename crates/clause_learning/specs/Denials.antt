@@ -1,6 +1,7 @@
 -- What marked variables deny.
 use Rattle.std.specs.Prelude.{◌≡◌, ℕ, ◌<◌, ◌≤◌, Bool, true, false, not, ◌⊎◌, if◌then◌else◌, List, [], ◌∷◌, length, take, get_or, slice_get, slice_set, Option, Some, None, bit_and}
 use Rattle.cfj_logic.specs.declared.clauses.Literal.{Literal}
+use Rattle.cfj_logic.specs.Selections.{has_bit}
 use Rattle.cfj_logic.specs.Sides.{Sides, is_over}
 use Rattle.cfj_words.specs.Lists.{Has}
 use Rattle.cfj_logic.specs.UnitClauses.{Values, value_of, IsFalse, IsFalsified, Leads}
@@ -80,3 +81,13 @@ is_value b (Some c) = bool_eq b c
 -- the variable's value, if it is marked
 abbrev pub marked_value : List Bool → Values → ℕ → Option Bool
 marked_value marks vs x = if get_or marks x false then value_of vs x else None
+
+-- of the features below a number the set has those with this value, and no other
+pub record Gathers (b : Bool) (n i : ℕ) (w : ℕ → Option Bool) : Type 0 where
+  pub below : (f : ℕ) → f < i → has_bit n f ≡ is_value b (w f)
+  pub past : (f : ℕ) → i ≤ f → has_bit n f ≡ false
+
+-- the mark of the variable of the step at this place goes, and marks come of variables that had values before it
+pub record Resolves (vars : ℕ) (t : List Step) (k : ℕ) (old new : List Bool) : Type 0 where
+  pub source : (s : Step) → slice_get t k ≡ Some s → (y : ℕ) → IsMarked new y → (IsMarked old y × (y ≡ s.literal.var → ⊥)) ⊎ IsValued (values_after vars (take k t)) y
+  pub kept : (s : Step) → slice_get t k ≡ Some s → (y : ℕ) → IsMarked old y → (y ≡ s.literal.var) ⊎ IsMarked new y

@@ -9,7 +9,7 @@ ghost use Rattle.clause_learning.specs.Denials.{IsLearned};
 use crate::chosen::denial;
 use crate::marks::{mark_all, no_marks};
 use crate::places::{last_marked, target_of};
-use crate::resolution::{resolve_last, resolve_others};
+use crate::resolution::{literals_at, resolve_last, resolve_others};
 use cfj_logic::{Clause, Literal};
 use cfj_words::Items;
 use std::alloc::{AllocError, Global};
@@ -66,7 +66,7 @@ pub fn analyze(
     ensures target { IfOk result (λ learned. learned.target ≤ decision) }
 {
     let mut marks = no_marks(alloc, values.len())?;
-    mark_all(marks.as_mut_slice(), clauses[conflict].slice());
+    mark_all(marks.as_mut_slice(), literals_at(clauses, conflict));
     let first = resolve_last(features, clauses, trail, decision, marks.as_mut_slice());
     resolve_others(features, clauses, trail, decision, marks.as_mut_slice());
     let second = last_marked(trail, marks.as_slice(), decision);

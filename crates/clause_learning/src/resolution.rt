@@ -4,12 +4,39 @@ ghost use Rattle.std.specs.Prelude.{◌≡◌, ◌<◌, ◌≤◌, ◌⊎◌, �
 ghost use Rattle.unit_propagation.specs.declared.trail.Step.{Step as TrailStep};
 ghost use Rattle.unit_propagation.specs.Trails.{values_after};
 ghost use Rattle.clause_learning.specs.Decided.{AreBelowIn, IsTrail, IsLastDecision, IsValued};
-ghost use Rattle.clause_learning.specs.Denials.{IsMarked, AreUnmarked, Denies, LeavesOne, LeavesFeatures};
+ghost use Rattle.clause_learning.specs.Denials.{IsMarked, AreUnmarked, Denies, Resolves, LeavesOne, LeavesFeatures};
 
 use crate::marks::{is_marked_at, none_marked, resolve};
 use cfj_logic::Literal;
 use cfj_words::Items;
 use unit_propagation::Step;
+
+/// The literals of the clause at this place.
+pub(crate) fn literals_at(clauses: &[Items<Literal>], place: usize) -> &[Literal]
+    requires { place < length clauses.now }
+    ensures { slice_get clauses.now place ≡ Some result.now }
+{
+    clauses[place].slice()
+}
+
+/// Resolves the marked variables' literals with the clause that the step at this place is the unit literal of.
+fn resolve_at(
+    features: u8,
+    clauses: &[Items<Literal>],
+    trail: &[Step],
+    place: usize,
+    cause: usize,
+    marks: &mut [bool],
+)
+    requires place { place < length trail.now }
+    requires trail { IsTrail clauses.now features (length marks.old) trail.now }
+    requires cause { (s : TrailStep) → slice_get trail.now place ≡ Some s → s.cause ≡ Some cause }
+    requires denies { Denies clauses.now (values_after (length marks.old) trail.now) marks.old }
+    ensures denies { Denies clauses.now (values_after (length marks.old) trail.now) marks.new }
+    ensures resolves { Resolves (length marks.old) trail.now place marks.old marks.new }
+{
+    resolve(marks, literals_at(clauses, cause), trail[place].literal);
+}
 
 /// Whether the step's variable is a feature, and no other that is marked stands behind the last decision.
 fn is_alone(features: u8, marks: &[bool], trail: &[Step], decision: usize, place: usize) -> bool
@@ -63,7 +90,7 @@ pub(crate) fn resolve_last(
             continue;
         }
         match cause_to_resolve(features, marks, trail, decision, place) {
-            Some(cause) => resolve(marks, clauses[cause].slice(), trail[place].literal),
+            Some(cause) => resolve_at(features, clauses, trail, place, cause, marks),
             None => return Some(place),
         }
     }
@@ -102,7 +129,7 @@ pub(crate) fn resolve_others(
     'steps: while place > 0 {
         place -= 1;
         match cause_of_gate(features, marks, trail, place) {
-            Some(cause) => resolve(marks, clauses[cause].slice(), trail[place].literal),
+            Some(cause) => resolve_at(features, clauses, trail, place, cause, marks),
             None => {}
         }
     }

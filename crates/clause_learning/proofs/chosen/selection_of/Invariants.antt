@@ -1,6 +1,6 @@
 use Rattle.std.proofs.Common.{◌≡◌, true}
 use Rattle.cfj_logic.specs.UnitClauses.{value_of}
-use Rattle.clause_learning.proofs.Choosing.{Gathers}
+use Rattle.clause_learning.specs.Denials.{Gathers}
 use Rattle.clause_learning.proofs.chosen.selection_of.Given as goal
 
 abbrev pub invariant-loop-feature : goal.invariant-loop-feature

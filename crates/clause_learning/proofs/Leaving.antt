@@ -59,6 +59,7 @@ leaves_one cs n vars t k p s marks trail last le e done marked all = record {
   var = s.literal.var;
   feature = alone.0;
   marked = marked;
+  valued = (s.literal.on, within_whole cs n vars t (p + 1) trail (omega (arith, within)) s.literal.var s.literal.on (step_value cs n vars t p s trail e));
   free = free_front cs n vars t k p s.literal.var trail le (omega (arith, within)) (step_free cs n (values_after vars (take p t)) s (trail.steps p s e));
   others = λ x h. go x h (valued_split vars t p x s e (all x h));
 }
@@ -149,6 +150,7 @@ one_next cs n vars t k p s old new trail most lt e r one = record {
   var = one.var;
   feature = one.feature;
   marked = stays (r.kept s e one.var one.marked);
+  valued = one.valued;
   free = one.free;
   others = λ x h. go x (r.source s e x h);
 }

@@ -1,4 +1,6 @@
+pub mod Assuming
 pub mod Choosing
+pub mod Learning
 pub mod Leaving
 pub mod Marking
 pub mod Resolving

@@ -42,11 +42,12 @@ pub record Denies (cs : List (List Literal)) (vs : Values) (marks : List Bool) :
   pub size : length marks ≡ length vs
   pub leads : (ws : Values) → length ws ≡ length vs → Keeps vs marks ws → Leads cs ws
 
--- one marked variable is a feature without a value before the last decision; the others had one there
+-- one marked variable is a feature that had no value before the last decision; the others had one there
 pub record LeavesOne (n vars : ℕ) (t : List Step) (k : ℕ) (marks : List Bool) : Type 0 where
   pub var : ℕ
   pub feature : var < n
   pub marked : IsMarked marks var
+  pub valued : IsValued (values_after vars t) var
   pub free : value_of (values_after vars (take k t)) var ≡ None
   pub others : (x : ℕ) → IsMarked marks x → (x ≡ var) ⊎ IsValued (values_after vars (take k t)) x
 

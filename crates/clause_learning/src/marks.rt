@@ -26,12 +26,12 @@ fn mark(marks: &mut [bool], var: u64, is_marked: bool)
 }
 
 /// Marks the variables of a clause.
-pub(crate) fn mark_all(marks: &mut [bool], clause: &[Literal])
-    requires { AreBelow (length marks.old) clause.now }
-    ensures { marks.new ≡ with_all marks.old clause.now }
+pub(crate) fn mark_all(marks: &mut Vec<bool>, clause: &[Literal])
+    requires { AreBelow (length marks.old.items) clause.now }
+    ensures { marks.new.items ≡ with_all marks.old.items clause.now }
 {
     for literal in clause {
-        mark(marks, literal.var, true);
+        marks[literal.var as usize] = true;
     }
 }
 

@@ -15,7 +15,7 @@ use Rattle.unit_propagation.proofs.Members.{all_has}
 use Rattle.unit_propagation.proofs.UnitSteps.{one_value}
 use Rattle.refutation_check.proofs.FirstValues.{fixed_none, fixed_length, assumed_length}
 use Rattle.clause_learning.specs.Decided.{IsValued, IsTrail, IsLastDecision}
-use Rattle.clause_learning.specs.Denials.{IsMarked, with_all, Keeps, Denies, LeavesOne, LeavesFeatures, IsDenial, IsLearned}
+use Rattle.clause_learning.specs.Denials.{IsMarked, with_all, Keeps, Denies, LeavesOne, LeavesFeatures, IsDenial, IsTaught}
 use Rattle.clause_learning.proofs.Assuming.{assumed_has}
 use Rattle.clause_learning.proofs.Marking.{all_size, all_marked, all_source, none_marked}
 use Rattle.clause_learning.proofs.Resolving.{denies_first, within_whole}
@@ -65,7 +65,7 @@ abbrev pub GoesBack : List Step → ℕ → Option ℕ → Type 0
 GoesBack t target last = (j : ℕ) (s : Step) → j < target → slice_get t j ≡ Some s → s.cause ≡ None → (p : ℕ) × (last ≡ Some p) × (j ≤ p)
 
 pub learned_is : (cs : List (List Literal)) (n vars : ℕ) (t : List Step) (k target : ℕ) (marks : List Bool) (c : Sides) (last : Option ℕ) → IsTrail cs n vars t → IsLastDecision t k → Denies cs (values_after vars t) marks →
-    LeavesFeatures n vars t k marks → IsDenial n (values_after vars t) marks c → IfSome last (λ p. IsBefore t marks k p) → GoesBack t target last → IsLearned cs n vars t k c target
+    LeavesFeatures n vars t k marks → IsDenial n (values_after vars t) marks c → IfSome last (λ p. IsBefore t marks k p) → GoesBack t target last → IsTaught cs n vars t k c target
 learned_is cs n vars t k target marks c last trail decision denies leaves denial before back = record {
   over = denial.over;
   once = denial.once;

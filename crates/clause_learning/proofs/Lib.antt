@@ -4,5 +4,4 @@ pub mod Learning
 pub mod Leaving
 pub mod Marking
 pub mod Resolving
-pub mod Standing
 pub mod Valuing

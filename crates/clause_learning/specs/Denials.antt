@@ -63,8 +63,8 @@ pub record IsDenial (n : ℕ) (vs : Values) (marks : List Bool) (c : Sides) : Ty
   pub denied : (m : Literal) → Has (literals c) m → IsMarked marks m.var × IsFalse vs m
   pub all : (x : ℕ) (b : Bool) → x < n → IsMarked marks x → value_of vs x ≡ Some b → Has (literals c) (record { var = x; on = not b })
 
--- where a clause that a conflict taught has one literal that was not false before the last decision, and where it had two
-pub record IsLearned (cs : List (List Literal)) (n vars : ℕ) (t : List Step) (k : ℕ) (c : Sides) (target : ℕ) : Type 0 where
+-- a conflict taught this clause: where it has one literal that was not false before the last decision, and where it had two
+pub record IsTaught (cs : List (List Literal)) (n vars : ℕ) (t : List Step) (k : ℕ) (c : Sides) (target : ℕ) : Type 0 where
   pub over : is_over n c ≡ true
   pub once : bit_and c.on c.off ≡ 0
   pub follows : Leads cs (assumed vars (literals c))

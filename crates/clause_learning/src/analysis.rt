@@ -5,7 +5,7 @@ ghost use Rattle.unit_propagation.specs.Falsified.{IsFalsifiedAt};
 ghost use Rattle.unit_propagation.specs.Trails.{values_after};
 ghost use Rattle.cfj_logic.specs.Logs.{AreBelow};
 ghost use Rattle.clause_learning.specs.Decided.{IsTrail, IsLastDecision, IsValued};
-ghost use Rattle.clause_learning.specs.Denials.{IsMarked, Denies, LeavesFeatures, IsLearned};
+ghost use Rattle.clause_learning.specs.Denials.{IsMarked, Denies, LeavesFeatures, IsTaught};
 
 use crate::chosen::denial;
 use crate::marks::{mark_all, no_marks};
@@ -101,7 +101,7 @@ fn learned_of(
     requires denies { Denies clauses.now values.now marks.now }
     requires features { LeavesFeatures features (length values.now) trail.now decision marks.now }
     requires first { IfSome first (λ place. place < length trail.now) }
-    ensures learned { IsLearned clauses.now features (length values.now) trail.now decision result.clause result.target }
+    ensures learned { IsTaught clauses.now features (length values.now) trail.now decision result.clause result.target }
     ensures target { result.target ≤ decision }
 {
     let second = last_marked(trail, marks, decision);
@@ -131,7 +131,7 @@ pub fn analyze(
     requires trail { IsTrail clauses.now features (length values.now) trail.now }
     requires conflict { IsFalsifiedAt clauses.now values.now conflict }
     requires decision { IsLastDecision trail.now decision }
-    ensures learned { IfOk result (λ learned. IsLearned clauses.now features (length values.now) trail.now decision learned.clause learned.target) }
+    ensures learned { IfOk result (λ learned. IsTaught clauses.now features (length values.now) trail.now decision learned.clause learned.target) }
     ensures target { IfOk result (λ learned. learned.target ≤ decision) }
 {
     let mut marks = conflict_marks(alloc, clauses, values, conflict)?;

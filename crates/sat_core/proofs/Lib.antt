@@ -1,6 +1,6 @@
-pub mod Denying
-pub mod Forced
+pub mod Entering
 pub mod LeastSelection
-pub mod Remaining
+pub mod Measuring
+pub mod Replaying
 pub mod Searching
-pub mod Steps
+pub mod Trailing

@@ -1,5 +1,10 @@
 //! The search for the least selection.
 
+ghost use Rattle.std.specs.Prelude.{◌≡◌, ◌≤◌, ◌++◌, ◌∷◌, [], IfOk, OnOk};
+ghost use Rattle.cfj_logic.specs.Sides.{empty_clause};
+ghost use Rattle.cfj_logic.specs.Logs.{AreWellFormed, AreSettledByFeatures};
+ghost use Rattle.sat_core.specs.Searches.{AnswerSays};
+
 use crate::answer::Answer;
 use crate::steps::{decide, learn};
 use cfj_logic::{Clause, Clauses, FeatureSet, Log};
@@ -8,7 +13,9 @@ use std::alloc::{AllocError, Global};
 use unit_propagation::WatchedClauses;
 
 /// Logs the empty clause.
-fn refute(log: &mut Log) -> Result<(), AllocError> {
+fn refute(log: &mut Log) -> Result<(), AllocError>
+    ensures { OnOk result (log.new ≡ log.old ++ empty_clause ∷ []) }
+{
     log.push(Clause::of(FeatureSet::empty(), FeatureSet::empty()))
 }
 
@@ -17,7 +24,12 @@ fn refute(log: &mut Log) -> Result<(), AllocError> {
 ///
 /// Features are decided in the order of their numbers, not selected first, and unit clauses are followed. At a conflict a clause
 /// over features is learned and logged, and the search jumps back to where it is a unit clause. The only error is want of memory.
-pub fn solve(alloc: Global, clauses: &Clauses, budget: u32) -> Result<Answer, AllocError> {
+pub fn solve(alloc: Global, clauses: &Clauses, budget: u32) -> Result<Answer, AllocError>
+    requires formed { AreWellFormed clauses.now }
+    requires settled { AreSettledByFeatures clauses.now }
+    requires budget { (1 ≤ budget) × (budget ≤ 20000) }
+    ensures { IfOk result (λ answer. AnswerSays clauses.now budget answer) }
+{
     let mut log = Log::new(alloc);
     let mut premises = WatchedClauses::of(alloc, clauses.vars, clauses.list.slice())?;
     let mut values = vec![in alloc; None; clauses.vars as usize]?;

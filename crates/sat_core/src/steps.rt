@@ -1,7 +1,15 @@
 //! The steps of a search.
 
+ghost use Rattle.std.specs.Prelude.{◌≡◌, ◌+◌, ◌<◌, ◌≤◌, ◌++◌, ◌∷◌, [], length, take, false, OnOk};
+ghost use Rattle.cfj_logic.specs.Sides.{is_empty};
+ghost use Rattle.cfj_logic.specs.Logs.{AreWellFormed, IsEntry, literals as literals_of};
+ghost use Rattle.unit_propagation.specs.Falsified.{IsFalsifiedAt};
+ghost use Rattle.unit_propagation.specs.Trails.{values_after};
+ghost use Rattle.clause_learning.specs.Decided.{AreBelowIn, IsLastDecision};
+ghost use Rattle.sat_core.specs.States.{IsLearned, IsOnTrail, Decides, AreFree};
+
 use cfj_logic::{Clauses, Literal, Log};
-use clause_learning::{Step, analyze};
+use clause_learning::{Learned, Step, analyze};
 use refutation_check::literals;
 use std::alloc::{AllocError, Global};
 use unit_propagation::WatchedClauses;
@@ -11,7 +19,10 @@ pub(crate) fn decide(
     values: &mut Vec<Option<bool>>,
     trail: &mut Vec<Step>,
     feature: u8,
-) -> Result<(), AllocError> {
+) -> Result<(), AllocError>
+    requires { feature < length values.old.items }
+    ensures { OnOk result (Decides values.old.items trail.old.items values.new.items trail.new.items feature) }
+{
     values[feature as usize] = Some(false);
     trail.push(Step {
         literal: Literal {
@@ -24,13 +35,41 @@ pub(crate) fn decide(
 }
 
 /// Takes all steps from a place on back.
-fn jump_back(values: &mut Vec<Option<bool>>, trail: &mut Vec<Step>, target: usize) {
+fn jump_back(values: &mut Vec<Option<bool>>, trail: &mut Vec<Step>, target: usize)
+    requires below { AreBelowIn (length values.old.items) trail.old.items }
+    requires free { AreFree (length values.old.items) trail.old.items }
+    requires values { values.old.items ≡ values_after (length values.old.items) trail.old.items }
+    requires target { target ≤ length trail.old.items }
+    ensures trail { trail.new.items ≡ take target trail.old.items }
+    ensures values { values.new.items ≡ values_after (length values.old.items) (take target trail.old.items) }
+{
     'steps: while trail.len() > target {
         match trail.pop() {
             Some(step) => values[step.literal.var as usize] = None,
-            None => return,
+            None => unreachable!(),
         }
     }
+}
+
+/// Logs a clause that a conflict taught, and puts it to the premises.
+fn log_clause(
+    alloc: Global,
+    clauses: &Clauses,
+    log: &mut Log,
+    premises: &mut WatchedClauses,
+    learned: &Learned,
+) -> Result<(), AllocError>
+    requires known { IsLearned clauses.now log.old premises.old }
+    requires entry { IsEntry clauses.now log.old learned.now.clause }
+    requires some { is_empty learned.now.clause ≡ false }
+    ensures known { OnOk result (IsLearned clauses.now log.new premises.new) }
+    ensures premises { OnOk result (premises.new ≡ premises.old ++ literals_of learned.now.clause ∷ []) }
+    ensures longer { OnOk result (length log.new ≡ length log.old + 1) }
+{
+    let clause = learned.clause;
+    let list = literals(alloc, &clause)?;
+    premises.learn(list, learned.first, learned.second)?;
+    log.push(clause)
 }
 
 /// Learns a clause from a conflict, logs it, and goes back to where all its literals but one are false. The place there is the result.
@@ -43,7 +82,16 @@ pub(crate) fn learn(
     trail: &mut Vec<Step>,
     conflict: usize,
     decision: usize,
-) -> Result<usize, AllocError> {
+) -> Result<usize, AllocError>
+    requires formed { AreWellFormed clauses.now }
+    requires known { IsLearned clauses.now log.old premises.old }
+    requires along { IsOnTrail clauses.now premises.old values.old.items trail.old.items }
+    requires conflict { IsFalsifiedAt premises.old values.old.items conflict }
+    requires decision { IsLastDecision trail.old.items decision }
+    ensures known { OnOk result (IsLearned clauses.now log.new premises.new) }
+    ensures along { OnOk result (IsOnTrail clauses.now premises.new values.new.items trail.new.items) }
+    ensures longer { OnOk result (length log.new ≡ length log.old + 1) }
+{
     let learned = analyze(
         alloc,
         clauses.features,
@@ -53,9 +101,7 @@ pub(crate) fn learn(
         conflict,
         decision,
     )?;
-    let list = literals(alloc, &learned.clause)?;
-    premises.learn(list, learned.first, learned.second)?;
-    log.push(learned.clause)?;
+    log_clause(alloc, clauses, log, premises, &learned)?;
     jump_back(values, trail, learned.target);
     Ok(learned.target)
 }

@@ -1,4 +1,6 @@
+pub mod Ending
 pub mod Entering
+pub mod Following
 pub mod LeastSelection
 pub mod Measuring
 pub mod Replaying

@@ -1,8 +1,10 @@
 -- How much a search has still to do.
-use Rattle.std.proofs.Common.{◌≡◌, ℕ, zero, suc, ◌+◌, ◌-◌, ◌*◌, ◌<◌, ◌≤◌, List, [], ◌∷◌, length, Option, Some, None, Bool, refl, sym, subst, arith}
+use Rattle.std.proofs.Common.{◌≡◌, ℕ, zero, suc, ◌+◌, ◌-◌, ◌*◌, ◌<◌, ◌≤◌, List, [], ◌∷◌, length, Option, Some, None, Bool, false, refl, sym, subst, arith}
 use Rattle.std.specs.Prelude.{sum_by}
 use Rattle.std.proofs.lemmas.List.Sums.{sum_by-cons}
+use Rattle.cfj_logic.specs.UnitClauses.{value_of, with_true}
 use Rattle.unit_propagation.specs.Standings.{unvalued}
+use Rattle.unit_propagation.proofs.Standing.{unvalued_falls}
 
 -- the clauses that may still be learned, and the variables that have no value
 abbrev pub remaining : ℕ → ℕ → ℕ → ℕ → ℕ
@@ -33,3 +35,6 @@ learned_smaller budget vars logged now free before is lt most = go (budget - log
 -- a variable got a value
 pub decided_smaller : (budget vars logged free before : ℕ) → free < before → remaining budget vars logged free < remaining budget vars logged before
 decided_smaller budget vars logged free before lt = omega (arith, lt)
+
+pub decided_falls : (vs ws : List (Option Bool)) (f : ℕ) → f < length vs → value_of vs f ≡ None → ws ≡ with_true vs (record { var = f; on = false }) → sum_by unvalued ws < sum_by unvalued vs
+decided_falls vs ws f lt free is = subst (λ w. sum_by unvalued w < sum_by unvalued vs) (sym is) (unvalued_falls vs (record { var = f; on = false }) lt free)

@@ -1,9 +1,10 @@
 -- How the search's trail grows and is cut.
-use Rattle.std.proofs.Common.{◌≡◌, ℕ, zero, suc, ◌+◌, ◌<◌, ◌≤◌, ◌⊎◌, inl, inr, Bool, false, List, [], ◌∷◌, ◌++◌, length, take, slice_get, slice_set, Option, Some, None, refl, sym, ◌∙◌, ap, subst, arith, length-append}
+use Rattle.std.proofs.Common.{◌≡◌, ℕ, zero, suc, ◌+◌, ◌<◌, ◌≤◌, ◌⊎◌, inl, inr, Bool, false, List, [], ◌∷◌, ◌++◌, length, take, drop, slice_get, slice_set, Option, Some, None, refl, sym, ◌∙◌, ap, subst, arith, length-append, append-nil}
 use Rattle.std.specs.Prelude.{All, replicate}
 use Rattle.std.proofs.lemmas.List.{take-append-le}
 use Rattle.std.proofs.lemmas.Option.{slice_get_within}
-use Rattle.std.proofs.Math.Seq.{take-append_seam}
+use Rattle.std.proofs.Math.ListN.{drop_of_length-le}
+use Rattle.std.proofs.Math.Seq.{take-append_seam, take-length}
 use Rattle.cfj_logic.specs.declared.clauses.Literal.{Literal}
 use Rattle.cfj_logic.specs.declared.clauses.Clauses.{Clauses}
 use Rattle.cfj_logic.specs.Sides.{Sides}
@@ -133,3 +134,18 @@ along_back clauses log ps more vs ws t u k target c formed along taught known mo
       (trail_back ps clauses.features clauses.vars t k target c along.is_trail taught (subst (All (AreBelow clauses.vars)) more_is (below_as clauses log more formed known.accepted known.premises_are))));
   values_are = ws_is ∙ ap (values_after clauses.vars) (sym u_is);
 }
+
+-- ---- at first
+
+pub along_first : (clauses : Clauses) (ps : List (List Literal)) (vs : Values) (t : List Step) → AreWellFormed clauses → ps ≡ clauses.list → vs ≡ replicate clauses.vars None → t ≡ [] → IsOnTrail clauses ps vs t
+along_first clauses ps vs t formed is none empty = record {
+  is_trail = subst (λ w. IsTrail w clauses.features clauses.vars t) (sym is) (subst (IsTrail clauses.list clauses.features clauses.vars) (sym empty)
+      (record { features = formed.features; below = formed.literals; steps = λ k s e. absurd (let no : ⊥ = cc e in no) }));
+  values_are = none ∙ ap (values_after clauses.vars) (sym empty);
+}
+
+-- ---- what a call wrote back
+
+pub written_back : {A : Type 0} (n : ℕ) (new old : List A) → length new ≡ length old → n ≡ length old → take n (new ++ drop (length new) old) ≡ new
+written_back n new old l e =
+    ap (λ w. take n (new ++ w)) (drop_of_length-le old (omega (arith, l))) ∙ ap (take n) (append-nil new) ∙ ap (λ k. take k new) (e ∙ sym l) ∙ take-length new

@@ -1,6 +1,6 @@
 -- No public contract cites this: it serves the proofs.
 -- What a search keeps from step to step.
-use Rattle.std.specs.Prelude.{◌≡◌, ℕ, ◌≤◌, false, List, [], ◌∷◌, ◌++◌, length, take, slice_get, Some, None}
+use Rattle.std.specs.Prelude.{◌≡◌, ℕ, ◌≤◌, false, List, [], ◌∷◌, ◌++◌, length, take, sum_by, slice_get, Option, Some, None, IfSome, IfNone}
 use Rattle.std.specs.List.{list_any}
 use Rattle.cfj_logic.specs.declared.clauses.Literal.{Literal}
 use Rattle.cfj_logic.specs.declared.clauses.Clauses.{Clauses}
@@ -8,6 +8,8 @@ use Rattle.cfj_logic.specs.Sides.{Sides, is_empty}
 use Rattle.cfj_logic.specs.UnitClauses.{Values, IsUnvalued, with_true}
 use Rattle.cfj_logic.specs.Logs.{premises as premises_of, IsAccepted}
 use Rattle.unit_propagation.specs.declared.trail.Step.{Step}
+use Rattle.unit_propagation.specs.Falsified.{IsFalsifiedAt}
+use Rattle.unit_propagation.specs.Standings.{AreOpen, unvalued}
 use Rattle.unit_propagation.specs.Trails.{values_after}
 use Rattle.clause_learning.specs.Decided.{IsTrail}
 
@@ -36,3 +38,11 @@ pub record Decides (vs : Values) (t : List Step) (ws : Values) (u : List Step) (
 -- no step's variable has a value before it
 abbrev pub AreFree : ℕ → List Step → Type 0
 AreFree vars t = (k : ℕ) (s : Step) → slice_get t k ≡ Some s → IsUnvalued (values_after vars (take k t)) s.literal
+
+-- what following a trail comes to: more values, and the place of a falsified clause, or that all clauses are open
+pub record Follows (clauses : Clauses) (ps qs : List (List Literal)) (vs ws : Values) (u : List Step) (found : Option ℕ) : Type 0 where
+  pub same : qs ≡ ps
+  pub along : IsOnTrail clauses qs ws u
+  pub fewer : sum_by unvalued ws ≤ sum_by unvalued vs
+  pub falsified : IfSome found (λ place. IsFalsifiedAt qs ws place)
+  pub opened : IfNone found (AreOpen qs ws)

@@ -6,7 +6,7 @@ ghost use Rattle.cfj_logic.specs.Logs.{AreWellFormed, AreSettledByFeatures};
 ghost use Rattle.sat_core.specs.Searches.{AnswerSays};
 
 use crate::answer::Answer;
-use crate::steps::{decide, learn};
+use crate::steps::{decide, follow, learn};
 use cfj_logic::{Clause, Clauses, FeatureSet, Log};
 use clause_learning::{last_decision, next_feature, selection_of};
 use std::alloc::{AllocError, Global};
@@ -36,7 +36,8 @@ pub fn solve(alloc: Global, clauses: &Clauses, budget: u32) -> Result<Answer, Al
     let mut trail = Vec::new(alloc);
     let mut from = 0;
     'search: loop {
-        match premises.extend(alloc, values.as_mut_slice(), &mut trail, from)? {
+        let found = follow(alloc, clauses, &log, &mut premises, &mut values, &mut trail, from)?;
+        match found {
             None => match next_feature(clauses.features, values.as_slice()) {
                 None => {
                     let selection = selection_of(clauses.features, values.as_slice());

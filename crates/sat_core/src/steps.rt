@@ -1,18 +1,36 @@
 //! The steps of a search.
 
-ghost use Rattle.std.specs.Prelude.{◌≡◌, ◌+◌, ◌<◌, ◌≤◌, ◌++◌, ◌∷◌, [], length, take, false, OnOk};
+ghost use Rattle.std.specs.Prelude.{◌≡◌, ◌+◌, ◌<◌, ◌≤◌, ◌++◌, ◌∷◌, [], length, take, false, IfOk, OnOk};
 ghost use Rattle.cfj_logic.specs.Sides.{is_empty};
 ghost use Rattle.cfj_logic.specs.Logs.{AreWellFormed, IsEntry, literals as literals_of};
 ghost use Rattle.unit_propagation.specs.Falsified.{IsFalsifiedAt};
 ghost use Rattle.unit_propagation.specs.Trails.{values_after};
 ghost use Rattle.clause_learning.specs.Decided.{AreBelowIn, IsLastDecision};
-ghost use Rattle.sat_core.specs.States.{IsLearned, IsOnTrail, Decides, AreFree};
+ghost use Rattle.sat_core.specs.States.{IsLearned, IsOnTrail, Follows, Decides, AreFree};
 
 use cfj_logic::{Clauses, Literal, Log};
 use clause_learning::{Learned, Step, analyze};
 use refutation_check::literals;
 use std::alloc::{AllocError, Global};
 use unit_propagation::WatchedClauses;
+
+/// Follows the trail from a place on by unit clauses, until a clause is falsified, whose place is the result, or all are open.
+pub(crate) fn follow(
+    alloc: Global,
+    clauses: &Clauses,
+    log: &Log,
+    premises: &mut WatchedClauses,
+    values: &mut Vec<Option<bool>>,
+    trail: &mut Vec<Step>,
+    from: usize,
+) -> Result<Option<usize>, AllocError>
+    requires formed { AreWellFormed clauses.now }
+    requires known { IsLearned clauses.now log.now premises.old }
+    requires along { IsOnTrail clauses.now premises.old values.old.items trail.old.items }
+    ensures { IfOk result (λ found. Follows clauses.now premises.old premises.new values.old.items values.new.items trail.new.items found) }
+{
+    premises.extend(alloc, values.as_mut_slice(), trail, from)
+}
 
 /// Decides that a feature isn't selected.
 pub(crate) fn decide(

@@ -110,8 +110,15 @@ learned_is cs n vars t k target marks c last trail decision denies leaves denial
 
     -- two literals have no value before a decision that is kept
     two : (j p : ℕ) (r : Step) → j ≤ p → p < k → slice_get t p ≡ Some r → IsMarked marks r.literal.var → IsOpen (values_after vars (take j t)) (literals c)
-    two j p r le lt e h = inr (literal, second, has, has_second, free_front cs n vars t j k one.var trail (omega (arith, le, lt)) (omega (arith, within)) one.free,
-      free_front cs n vars t j p r.literal.var trail le (omega (arith, within, lt)) (step_free cs n (values_after vars (take p t)) r (trail.steps p r e)), apart)
+    two j p r le lt e h = inr (
+      literal,
+      second,
+      has,
+      has_second,
+      free_front cs n vars t j k one.var trail (omega (arith, le, lt)) (omega (arith, within)) one.free,
+      free_front cs n vars t j p r.literal.var trail le (omega (arith, within, lt)) (step_free cs n (values_after vars (take p t)) r (trail.steps p r e)),
+      apart,
+    )
       where
         second : Literal
         second = record { var = r.literal.var; on = not r.literal.on }

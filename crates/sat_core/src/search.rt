@@ -36,7 +36,15 @@ pub fn solve(alloc: Global, clauses: &Clauses, budget: u32) -> Result<Answer, Al
     let mut trail = Vec::new(alloc);
     let mut from = 0;
     'search: loop {
-        let found = follow(alloc, clauses, &log, &mut premises, &mut values, &mut trail, from)?;
+        let found = follow(
+            alloc,
+            clauses,
+            &log,
+            &mut premises,
+            &mut values,
+            &mut trail,
+            from,
+        )?;
         match found {
             None => match next_feature(clauses.features, values.as_slice()) {
                 None => {

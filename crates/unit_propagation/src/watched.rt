@@ -185,7 +185,14 @@ impl WatchedClauses {
         ensures opened { IfOk result (λ found. IfNone found (AreOpen self.old values.new)) }
         ensures same { OnOk result (self.new ≡ self.old) }
     {
-        extend(alloc, self.clauses.as_slice(), &mut self.watches, values, trail, from)
+        extend(
+            alloc,
+            self.clauses.as_slice(),
+            &mut self.watches,
+            values,
+            trail,
+            from,
+        )
     }
 
     /// The clauses, in order.

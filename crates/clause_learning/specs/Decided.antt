@@ -1,5 +1,5 @@
 -- Trails of decisions and of what follows from them.
-use Rattle.std.specs.Prelude.{◌≡◌, ℕ, ◌+◌, ◌<◌, ◌≤◌, Bool, false, ◌⊎◌, List, take, slice_get, Option, Some, None, All}
+use Rattle.std.specs.Prelude.{◌≡◌, ℕ, ◌+◌, ◌<◌, ◌≤◌, Bool, false, ◌⊎◌, List, take, slice_get, Some, None, All}
 use Rattle.cfj_logic.specs.declared.clauses.Literal.{Literal}
 use Rattle.cfj_logic.specs.UnitClauses.{Values, value_of, IsUnvalued, IsUnit}
 use Rattle.cfj_logic.specs.Logs.{AreBelow}
@@ -30,7 +30,9 @@ pub record IsImplied (cs : List (List Literal)) (vs : Values) (s : Step) : Type 
 
 -- each step decides, or follows, under the values of those before it
 abbrev pub AreSteps : List (List Literal) → ℕ → ℕ → List Step → Type 0
-AreSteps cs n vars t = (k : ℕ) (s : Step) → slice_get t k ≡ Some s → IsDecision cs n (values_after vars (take k t)) s ⊎ IsImplied cs (values_after vars (take k t)) s
+AreSteps cs n vars t =
+    (k : ℕ) (s : Step) → slice_get t k ≡ Some s →
+    IsDecision cs n (values_after vars (take k t)) s ⊎ IsImplied cs (values_after vars (take k t)) s
 
 -- a trail over clauses with so many features and variables
 pub record IsTrail (cs : List (List Literal)) (n vars : ℕ) (t : List Step) : Type 0 where

@@ -1,5 +1,6 @@
 -- What marked variables deny.
-use Rattle.std.specs.Prelude.{◌≡◌, ℕ, ◌<◌, ◌≤◌, Bool, true, false, not, ◌⊎◌, if◌then◌else◌, List, [], ◌∷◌, length, take, get_or, slice_get, slice_set, Option, Some, None, bit_and}
+use Rattle.std.specs.Prelude.{◌≡◌, ℕ, ◌<◌, ◌≤◌, Bool, true, false, not, ◌⊎◌, if◌then◌else◌, Option, Some, None, bit_and}
+use Rattle.std.specs.Prelude.{List, [], ◌∷◌, length, take, get_or, slice_get, slice_set}
 use Rattle.cfj_logic.specs.declared.clauses.Literal.{Literal}
 use Rattle.cfj_logic.specs.Selections.{has_bit}
 use Rattle.cfj_logic.specs.Sides.{Sides, is_over}
@@ -11,13 +12,18 @@ use Rattle.unit_propagation.specs.Standings.{bool_eq, literal_eq, IsOpen}
 use Rattle.unit_propagation.specs.Trails.{values_after}
 use Rattle.clause_learning.specs.Decided.{IsValued}
 
+-- clauses as lists of literals
+abbrev pub Premises : Type 0
+Premises = List (List Literal)
+
 -- the variable is marked
 abbrev pub IsMarked : List Bool → ℕ → Type 0
 IsMarked marks x = get_or marks x false ≡ true
 
 -- no step from the first place up to the second has a marked variable
 abbrev pub AreUnmarked : List Bool → List Step → ℕ → ℕ → Type 0
-AreUnmarked marks t from to = (k : ℕ) (s : Step) → from ≤ k → k < to → slice_get t k ≡ Some s → IsMarked marks s.literal.var → ⊥
+AreUnmarked marks t from to =
+    (k : ℕ) (s : Step) → from ≤ k → k < to → slice_get t k ≡ Some s → IsMarked marks s.literal.var → ⊥
 
 -- the marks with the variables of a clause's literals
 abbrev pub with_all : List Bool → List Literal → List Bool
@@ -61,10 +67,11 @@ pub record IsDenial (n : ℕ) (vs : Values) (marks : List Bool) (c : Sides) : Ty
   pub over : is_over n c ≡ true
   pub once : bit_and c.on c.off ≡ 0
   pub denied : (m : Literal) → Has (literals c) m → IsMarked marks m.var × IsFalse vs m
-  pub all : (x : ℕ) (b : Bool) → x < n → IsMarked marks x → value_of vs x ≡ Some b → Has (literals c) (record { var = x; on = not b })
+  pub all : (x : ℕ) (b : Bool) → x < n → IsMarked marks x → value_of vs x ≡ Some b →
+      Has (literals c) (record { var = x; on = not b })
 
--- a conflict taught this clause: where it has one literal that was not false before the last decision, and where it had two
-pub record IsTaught (cs : List (List Literal)) (n vars : ℕ) (t : List Step) (k : ℕ) (c : Sides) (target : ℕ) : Type 0 where
+-- a conflict taught this clause: one of its literals was not false before the last decision, and two before earlier ones
+pub record IsTaught (cs : Premises) (n vars : ℕ) (t : List Step) (k : ℕ) (c : Sides) (target : ℕ) : Type 0 where
   pub over : is_over n c ≡ true
   pub once : bit_and c.on c.off ≡ 0
   pub follows : Leads cs (assumed vars (literals c))
@@ -72,7 +79,8 @@ pub record IsTaught (cs : List (List Literal)) (n vars : ℕ) (t : List Step) (k
   pub literal : Literal
   pub has : Has (literals c) literal
   pub others : (m : Literal) → Has (literals c) m → (m ≡ literal) ⊎ IsFalse (values_after vars (take k t)) m
-  pub open_before : (j : ℕ) (s : Step) → j < target → slice_get t j ≡ Some s → s.cause ≡ None → IsOpen (values_after vars (take j t)) (literals c)
+  pub open_before : (j : ℕ) (s : Step) → j < target → slice_get t j ≡ Some s → s.cause ≡ None →
+      IsOpen (values_after vars (take j t)) (literals c)
 
 -- the value is there, and is this one
 abbrev pub is_value : Bool → Option Bool → Bool
@@ -90,5 +98,7 @@ pub record Gathers (b : Bool) (n i : ℕ) (w : ℕ → Option Bool) : Type 0 whe
 
 -- the mark of the variable of the step at this place goes, and marks come of variables that had values before it
 pub record Resolves (vars : ℕ) (t : List Step) (k : ℕ) (old new : List Bool) : Type 0 where
-  pub source : (s : Step) → slice_get t k ≡ Some s → (y : ℕ) → IsMarked new y → (IsMarked old y × (y ≡ s.literal.var → ⊥)) ⊎ IsValued (values_after vars (take k t)) y
-  pub kept : (s : Step) → slice_get t k ≡ Some s → (y : ℕ) → IsMarked old y → (y ≡ s.literal.var) ⊎ IsMarked new y
+  pub source : (s : Step) → slice_get t k ≡ Some s → (y : ℕ) → IsMarked new y →
+      (IsMarked old y × (y ≡ s.literal.var → ⊥)) ⊎ IsValued (values_after vars (take k t)) y
+  pub kept : (s : Step) → slice_get t k ≡ Some s → (y : ℕ) → IsMarked old y →
+      (y ≡ s.literal.var) ⊎ IsMarked new y

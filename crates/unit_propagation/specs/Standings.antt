@@ -1,5 +1,6 @@
 -- What a clause comes to, literal by literal.
-use Rattle.std.specs.Prelude.{◌≡◌, ℕ, ◌<◌, Bool, true, false, not, ◌==◌, ◌&&◌, ◌⊎◌, if◌then◌else◌, List, [], ◌∷◌, sum_by, Option, Some, None}
+use Rattle.std.specs.Prelude.{◌≡◌, ℕ, ◌<◌, Bool, true, false, not, ◌==◌, ◌&&◌, ◌⊎◌, if◌then◌else◌}
+use Rattle.std.specs.Prelude.{List, [], ◌∷◌, sum_by, Option, Some, None}
 use Rattle.cfj_logic.specs.declared.clauses.Literal.{Literal}
 use Rattle.unit_propagation.specs.declared.units.Standing.{Standing}
 use Rattle.unit_propagation.specs.declared.units.Standing.TheVariants.{Open, Falsified, Unit as UnitOf}

@@ -14,7 +14,7 @@ use Rattle.unit_propagation.proofs.UnitSteps.{leads_more}
 use Rattle.refutation_check.proofs.Consequences.{true_where_follows, sound}
 use Rattle.refutation_check.proofs.Least.{fixed_value, choice_at, choices_length, settled_extends}
 use Rattle.sat_core.specs.Searches.{IsLeastThatExtends}
-use Rattle.sat_core.specs.States.{IsConflict, IsLearned, IsState}
+use Rattle.sat_core.specs.States.{IsLearned}
 
 take_get : {A : Type 0} (xs : List A) (k j : ℕ) (x : A) → slice_get (take k xs) j ≡ Some x → (j < k) × (slice_get xs j ≡ Some x)
 take_get xs zero j x e = absurd (let bad : ⊥ = cc e in bad)
@@ -99,7 +99,7 @@ none_earlier clauses log s t same all forced e x =
 -- ---- the answer
 
 pub least_of : (clauses : Clauses) (budget : ℕ) (log : List Sides) (prefix : List Bool) (s : Chosen) → AreWellFormed clauses → AreSettledByFeatures clauses → IsAccepted clauses log → length log ≤ budget →
-    AreForced clauses.vars (premises clauses log) prefix → s.features ≡ clauses.features → choices s ≡ prefix → (IsConflict clauses log prefix → ⊥) → IsLeastThatExtends clauses s × IsProofOfLeast clauses log s × (length log ≤ budget)
+    AreForced clauses.vars (premises clauses log) prefix → s.features ≡ clauses.features → choices s ≡ prefix → (Leads (premises clauses log) (fixed clauses.vars prefix) → ⊥) → IsLeastThatExtends clauses s × IsProofOfLeast clauses log s × (length log ≤ budget)
 least_of clauses budget log prefix s formed settled accepted within all same are clear = (
   record { features = same; extends = extends; least = λ t e x. none_earlier clauses log s t same accepted forced e x },
   record { accepted = accepted; extends = extends; forced = forced },
@@ -114,12 +114,6 @@ least_of clauses budget log prefix s formed settled accepted within all same are
         clear (subst (λ p. Leads (premises clauses log) (fixed clauses.vars p)) are
         (leads_more clauses.list (premises clauses log) (fixed clauses.vars (choices s)) (λ c h. has_left clauses.list (map literals log) c h) leads)))
 
-pub least_found : (clauses : Clauses) (budget : ℕ) (log : List Sides) (ps : List (List Literal)) (prefix : List Bool) (back : Bool) (s : Chosen) → AreWellFormed clauses → AreSettledByFeatures clauses → IsState clauses budget log ps prefix back →
-    s.features ≡ clauses.features → choices s ≡ prefix → (IsConflict clauses log prefix → ⊥) → IsLeastThatExtends clauses s × IsProofOfLeast clauses log s × (length log ≤ budget)
-least_found clauses budget log ps prefix back s formed settled state same are clear =
-    least_of clauses budget log prefix s formed settled state.known.accepted state.within state.forced same are clear
-
--- the same over the premises themselves
 pub least_at_last : (clauses : Clauses) (budget : ℕ) (log : List Sides) (ps : List (List Literal)) (prefix : List Bool) (s : Chosen) → AreWellFormed clauses → AreSettledByFeatures clauses → IsLearned clauses log ps → length log ≤ budget →
     AreForced clauses.vars ps prefix → s.features ≡ clauses.features → choices s ≡ prefix → (Leads ps (fixed clauses.vars prefix) → ⊥) → IsLeastThatExtends clauses s × IsProofOfLeast clauses log s × (length log ≤ budget)
 least_at_last clauses budget log ps prefix s formed settled known within forced same are clear =

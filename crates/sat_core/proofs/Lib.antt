@@ -1,6 +1,8 @@
-pub mod Denying
-pub mod Forced
+pub mod Ending
+pub mod Entering
+pub mod Following
 pub mod LeastSelection
-pub mod Remaining
+pub mod Measuring
+pub mod Replaying
 pub mod Searching
-pub mod Steps
+pub mod Trailing

@@ -17,5 +17,7 @@ pub record IsLeastThatExtends (clauses : Clauses) (s : Chosen) : Type 0 where
 -- what the answer says of the clauses; no log is longer than the budget
 abbrev pub AnswerSays : Clauses → ℕ → Answer → Type 0
 AnswerSays clauses budget (Refuted log) = IsRefutation clauses log × (length log ≤ budget)
-AnswerSays clauses budget (Least s log) = IsLeastThatExtends clauses s × IsProofOfLeast clauses log s × (length log ≤ budget)
-AnswerSays clauses budget (Spent log) = IsAccepted clauses log × (length log ≡ budget) × (Has log empty_clause → ⊥)
+AnswerSays clauses budget (Least s log) =
+    IsLeastThatExtends clauses s × IsProofOfLeast clauses log s × (length log ≤ budget)
+AnswerSays clauses budget (Spent log) =
+    IsAccepted clauses log × (length log ≡ budget) × (Has log empty_clause → ⊥)

@@ -1,12 +1,22 @@
 -- No public contract cites this: it serves the proofs.
 -- What a search keeps from step to step.
-use Rattle.std.specs.Prelude.{◌≡◌, ℕ, ◌≤◌, Bool, true, false, List, [], ◌∷◌, ◌++◌, length}
+use Rattle.std.specs.Prelude.{◌≡◌, ℕ, ◌≤◌, false, Option, Some, None, IfSome, IfNone}
+use Rattle.std.specs.Prelude.{List, [], ◌∷◌, ◌++◌, length, take, sum_by, slice_get}
 use Rattle.std.specs.List.{list_any}
 use Rattle.cfj_logic.specs.declared.clauses.Literal.{Literal}
 use Rattle.cfj_logic.specs.declared.clauses.Clauses.{Clauses}
 use Rattle.cfj_logic.specs.Sides.{Sides, is_empty}
-use Rattle.cfj_logic.specs.UnitClauses.{Leads}
-use Rattle.cfj_logic.specs.Logs.{premises as premises_of, fixed, IsAccepted, IsRefutation, AreForced}
+use Rattle.cfj_logic.specs.UnitClauses.{Values, IsUnvalued, with_true}
+use Rattle.cfj_logic.specs.Logs.{premises as premises_of, IsAccepted}
+use Rattle.unit_propagation.specs.declared.trail.Step.{Step}
+use Rattle.unit_propagation.specs.Falsified.{IsFalsifiedAt}
+use Rattle.unit_propagation.specs.Standings.{AreOpen, unvalued}
+use Rattle.unit_propagation.specs.Trails.{values_after}
+use Rattle.clause_learning.specs.Decided.{IsTrail}
+
+-- clauses as lists of literals
+abbrev pub Premises : Type 0
+Premises = List (List Literal)
 
 -- the log is accepted, holds no empty clause, and these are the premises with its clauses
 pub record IsLearned (clauses : Clauses) (log : List Sides) (premises : List (List Literal)) : Type 0 where
@@ -14,24 +24,31 @@ pub record IsLearned (clauses : Clauses) (log : List Sides) (premises : List (Li
   pub accepted : IsAccepted clauses log
   pub plain : list_any is_empty log ≡ false
 
--- what holds once a clause is logged: the log is a refutation, or the search goes on
-abbrev pub IsAfter : Clauses → List Sides → List (List Literal) → Bool → Type 0
-IsAfter clauses log premises true = IsRefutation clauses log
-IsAfter clauses log premises false = IsLearned clauses log premises
+-- the trail is one over the premises, and these are its values
+pub record IsOnTrail (clauses : Clauses) (ps : List (List Literal)) (vs : Values) (t : List Step) : Type 0 where
+  pub is_trail : IsTrail ps clauses.features clauses.vars t
+  pub values_are : vs ≡ values_after clauses.vars t
 
--- unit clauses lead from these values of the first features to a falsified clause
-abbrev pub IsConflict : Clauses → List Sides → List Bool → Type 0
-IsConflict clauses log prefix = Leads (premises_of clauses log) (fixed clauses.vars prefix)
-
--- each feature that is selected has to be, and where the search goes back it goes on from a conflict
-pub record IsState (clauses : Clauses) (budget : ℕ) (log : List Sides) (premises : List (List Literal)) (prefix : List Bool) (back : Bool) : Type 0 where
-  pub known : IsLearned clauses log premises
-  pub short : length prefix ≤ clauses.features
-  pub forced : AreForced clauses.vars (premises_of clauses log) prefix
-  pub conflict : back ≡ true → IsConflict clauses log prefix
+-- what holds whenever the search goes on
+pub record IsSearch (clauses : Clauses) (budget : ℕ) (log : List Sides) (ps : Premises) (vs : Values) (t : List Step) : Type 0 where
+  pub known : IsLearned clauses log ps
+  pub along : IsOnTrail clauses ps vs t
   pub within : length log ≤ budget
 
--- the last value is gone where it was selected, and else is selected instead
-abbrev pub Retreats : List Bool → List Bool → Bool → Type 0
-Retreats p q true = p ≡ q ++ true ∷ []
-Retreats p q false = (front : List Bool) × (p ≡ front ++ false ∷ []) × (q ≡ front ++ true ∷ [])
+-- one more step, by which the feature isn't selected
+pub record Decides (vs : Values) (t : List Step) (ws : Values) (u : List Step) (feature : ℕ) : Type 0 where
+  pub values : ws ≡ with_true vs (record { var = feature; on = false })
+  pub trail : u ≡ t ++ record { literal = record { var = feature; on = false }; cause = None } ∷ []
+
+-- no step's variable has a value before it
+abbrev pub AreFree : ℕ → List Step → Type 0
+AreFree vars t =
+    (k : ℕ) (s : Step) → slice_get t k ≡ Some s → IsUnvalued (values_after vars (take k t)) s.literal
+
+-- what following a trail comes to: more values, and the place of a falsified clause, or that all clauses are open
+pub record Follows (clauses : Clauses) (ps qs : Premises) (vs ws : Values) (u : List Step) (found : Option ℕ) : Type 0 where
+  pub same : qs ≡ ps
+  pub along : IsOnTrail clauses qs ws u
+  pub fewer : sum_by unvalued ws ≤ sum_by unvalued vs
+  pub falsified : IfSome found (λ place. IsFalsifiedAt qs ws place)
+  pub opened : IfNone found (AreOpen qs ws)

@@ -4,8 +4,8 @@
 #![tactic(auto)]
 
 mod answer;
-mod denial;
 mod search;
+mod steps;
 
 pub use answer::Answer;
 pub use search::solve;

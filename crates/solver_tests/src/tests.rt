@@ -4,8 +4,10 @@ ghost use Rattle.std.specs.Prelude.{◌≡◌, ◌≤◌, IfOk, IfSome};
 ghost use Rattle.cfj_logic.specs.Formulas as spec;
 ghost use Rattle.solver_tests.specs.Questions.{IsQuestion};
 
+mod corrupted;
 mod gates;
 mod logs;
+mod numbers;
 mod searches;
 
 use cfj_logic::{Clauses, Formula, Selection};

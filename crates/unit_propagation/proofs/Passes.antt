@@ -1,18 +1,17 @@
 -- Going once through clauses.
 use Rattle.std.proofs.Common.{◌≡◌, ℕ, ◌+◌, ◌<◌, ◌≤◌, ◌⊎◌, inl, inr, List, [], ◌∷◌, ◌++◌, length, get_or, take, refl, sym, ◌∙◌, ap, subst, arith}
 use Rattle.std.proofs.lemmas.List.{take_more}
-use Rattle.std.proofs.lemmas.Option.{slice_get_read}
+use Rattle.std.proofs.lemmas.Option.{slice_get_read, slice_get_within}
 use Rattle.std.specs.Prelude.{All, sum_by}
 use Rattle.cfj_logic.specs.declared.clauses.Literal.{Literal}
-use Rattle.unit_propagation.specs.declared.units.Pass.{Pass}
-use Rattle.unit_propagation.specs.declared.units.Pass.TheVariants as pass
+use Rattle.unit_propagation.specs.declared.sweep.Pass.{Pass}
+use Rattle.unit_propagation.specs.declared.sweep.Pass.TheVariants as pass
 use Rattle.cfj_words.specs.Lists.{Has}
-use Rattle.cfj_logic.specs.UnitClauses.{Values, with_true, IsUnit, Reaches, Leads}
+use Rattle.cfj_logic.specs.UnitClauses.{Values, with_true, IsUnit}
 use Rattle.cfj_logic.specs.Logs.{AreBelow}
 use Rattle.unit_propagation.specs.Standings.{IsOpen, AreOpen, unvalued, Passes}
-use Rattle.unit_propagation.proofs.Members.{has_left, has_right, has_split, has_one, all_has}
+use Rattle.unit_propagation.proofs.Members.{has_split, has_one, all_has, slice_get_left}
 use Rattle.unit_propagation.proofs.Standing.{unvalued_falls}
-use Rattle.unit_propagation.proofs.UnitSteps.{reaches_then, reaches_one, reaches_more, reaches_within, stuck}
 
 pub take_next : {A : Type 0} (xs : List A) (i : ℕ) (x : A) → i < length xs → x ≡ get_or xs i x → take (i + 1) xs ≡ take i xs ++ x ∷ []
 take_next xs i x lt is = take_more xs i x lt ∙ ap (λ w. take i xs ++ w ∷ []) (sym is)
@@ -29,7 +28,8 @@ passes_open cs vs ws i x y found lt is same now p = subst (λ w. Passes w vs ws 
     front = take i cs
 
     go : (f : Pass) → Passes front vs ws f → Passes (front ++ x ∷ []) vs ws f
-    go pass.Falsified q = (q.0, has_left front (x ∷ []) q.0 q.1, q.2)
+    go (pass.Falsified place) q =
+        record { clause = q.clause; there = slice_get_left front (x ∷ []) place (slice_get_within front place q.clause q.there) ∙ q.there; falsified = q.falsified }
     go pass.Changed q = q
     go pass.Still q = (q.0, λ c h. each c (has_split front (x ∷ []) c h))
       where
@@ -47,11 +47,5 @@ literal_below n cs c l all h k = all_has (λ (w : Literal). w.var < n) c l (all_
 pub unit_below : (n i : ℕ) (cs : List (List Literal)) (ws : Values) (x y : List Literal) (l : Literal) → All (AreBelow n) cs → i < length cs → x ≡ get_or cs i x → y ≡ x → IsUnit ws y l → l.var < n
 unit_below n i cs ws x y l all lt is same u = literal_below n cs x l all (read_has cs i x lt is) (subst (λ w. Has w l) same u.has)
 
-pub unit_reaches : (cs : List (List Literal)) (vs ws : Values) (i : ℕ) (x y : List Literal) (l : Literal) → i < length cs → x ≡ get_or cs i x → y ≡ x → IsUnit ws y l → Reaches cs vs ws → Reaches cs vs (with_true ws l)
-unit_reaches cs vs ws i x y l lt is same u r = reaches_then cs vs ws (with_true ws l) r (reaches_one cs ws x l (read_has cs i x lt is) (subst (λ w. IsUnit ws w l) same u))
-
 pub unit_falls : (vs ws : Values) (y : List Literal) (l : Literal) → sum_by unvalued ws ≤ sum_by unvalued vs → l.var < length ws → IsUnit ws y l → sum_by unvalued (with_true ws l) < sum_by unvalued vs
 unit_falls vs ws y l most lt u = let fall = unvalued_falls ws l lt u.unvalued in omega (arith, most, fall)
-
-pub leads_at : (cs : List (List Literal)) (vs us ws : Values) → Reaches cs vs us → Reaches cs us ws → Passes cs us ws pass.Falsified → Leads cs vs
-leads_at cs vs us ws r s p = record { end = ws; reached = reaches_then cs vs us ws r s; clause = p.0; has = p.1; falsified = p.2 }

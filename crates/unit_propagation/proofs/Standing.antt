@@ -27,7 +27,7 @@ bool_eq_same : (b : Bool) → bool_eq b b ≡ true
 bool_eq_same true = refl
 bool_eq_same false = refl
 
-literal_eq_true : (l m : Literal) → literal_eq l m ≡ true → l ≡ m
+pub literal_eq_true : (l m : Literal) → literal_eq l m ≡ true → l ≡ m
 literal_eq_true l m e =
     let h = both_true (l.var == m.var) (bool_eq l.on m.on) e in
     let p : l.var ≡ m.var = eqb-true l.var m.var h.0 in
@@ -37,7 +37,7 @@ literal_eq_true l m e =
 literal_eq_same : (l : Literal) → literal_eq l l ≡ true
 literal_eq_same l = ap (λ b. b && bool_eq l.on l.on) (eq-eqb l.var l.var refl) ∙ bool_eq_same l.on
 
-literal_eq_false : (l m : Literal) → literal_eq l m ≡ false → l ≡ m → ⊥
+pub literal_eq_false : (l m : Literal) → literal_eq l m ≡ false → l ≡ m → ⊥
 literal_eq_false l m e s = let no : true ≡ false = sym (literal_eq_same l) ∙ ap (literal_eq l) s ∙ e in cc no
 
 -- ---- one more literal
@@ -99,6 +99,11 @@ shows_from vs front (l ∷ c) s h =
 
 pub shows : (vs : Values) (c : List Literal) → Shows vs c (standing_from vs Falsified c)
 shows vs c = shows_from vs [] c Falsified (λ l h. absurd (has_none l h))
+
+-- an open clause stays open with more literals
+pub open_stays : (vs : Values) (c : List Literal) → standing_from vs Open c ≡ Open
+open_stays vs [] = refl
+open_stays vs (l ∷ c) = open_stays vs c
 
 -- ---- fewer without a value
 

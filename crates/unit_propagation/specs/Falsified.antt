@@ -1,4 +1,3 @@
--- No public contract cites this: it serves the proofs.
 -- Clauses that values falsify.
 use Rattle.std.specs.Prelude.{◌≡◌, ℕ, List, slice_get, Some}
 use Rattle.cfj_logic.specs.declared.clauses.Literal.{Literal}

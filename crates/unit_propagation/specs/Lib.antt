@@ -1,4 +1,4 @@
-pub mod Ends
 pub mod Falsified
 pub mod Standings
+pub mod Trails
 pub mod Visits

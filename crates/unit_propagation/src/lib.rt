@@ -5,6 +5,7 @@
 //! gone through once more: the answer is exact, whatever is watched.
 #![tactic(auto)]
 
+mod sweep;
 mod trail;
 mod units;
 mod values;
@@ -13,4 +14,5 @@ mod watches;
 
 pub use cfj_logic::Literal;
 pub use cfj_words::Items;
+pub use trail::Step;
 pub use watched::WatchedClauses;

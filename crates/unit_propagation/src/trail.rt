@@ -5,11 +5,11 @@ use std::alloc::{AllocError, Global};
 
 /// A literal that was made true.
 #[derive(Clone, Copy, Debug)]
-pub(crate) struct Step {
+pub struct Step {
     /// The literal.
-    pub(crate) literal: Literal,
+    pub literal: Literal,
     /// The place of the unit clause that it was the literal of, if there was one.
-    pub(crate) cause: Option<usize>,
+    pub cause: Option<usize>,
 }
 
 /// A step for each variable that has a value.

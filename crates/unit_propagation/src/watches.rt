@@ -1,9 +1,9 @@
 //! The watched literals of clauses, and what follows from a literal that is made true.
 
 ghost use Rattle.std.specs.Prelude.{length, All, IfOk, IfSome, OnOk};
-ghost use Rattle.cfj_logic.specs.UnitClauses.{Reaches};
 ghost use Rattle.cfj_logic.specs.Logs.{AreBelow};
 ghost use Rattle.unit_propagation.specs.Falsified.{IsFalsifiedAt};
+ghost use Rattle.unit_propagation.specs.Trails.{Grows};
 ghost use Rattle.unit_propagation.specs.Visits.{Visits};
 
 use crate::trail::Step;
@@ -23,7 +23,7 @@ struct Pair {
 
 /// What a look at a clause came to, one of whose watched literals had become false.
 #[derive(Clone, Copy, Debug, PartialEq, Eq)]
-enum Visit {
+pub(crate) enum Visit {
     /// The literal is watched on.
     Stays,
     /// Another literal is watched in its place.
@@ -111,14 +111,14 @@ fn opposite(literal: Literal) -> Literal {
 }
 
 /// Makes the literal of the clause true if it is a unit clause, and tells whether it is falsified.
-fn settle(
+pub(crate) fn settle(
     clauses: &[Items<Literal>],
     values: &mut [Option<bool>],
     trail: &mut Vec<Step>,
     place: usize,
 ) -> Result<Visit, AllocError>
     requires below { All (AreBelow (length values.old)) clauses.now }
-    ensures reached { OnOk result (Reaches clauses.now values.old values.new) }
+    ensures grown { OnOk result (Grows clauses.now values.old trail.old.items values.new trail.new.items) }
     ensures says { IfOk result (λ visit. Visits clauses.now values.new place visit) }
 {
     if place >= clauses.len() {
@@ -207,7 +207,7 @@ impl Watches {
         falsified: Literal,
     ) -> Result<Visit, AllocError>
         requires below { All (AreBelow (length values.old)) clauses.now }
-        ensures reached { OnOk result (Reaches clauses.now values.old values.new) }
+        ensures grown { OnOk result (Grows clauses.now values.old trail.old.items values.new trail.new.items) }
         ensures says { IfOk result (λ visit. Visits clauses.now values.new place visit) }
     {
         if place >= self.pairs.len() || place >= clauses.len() {
@@ -240,7 +240,7 @@ impl Watches {
         falsified: Literal,
     ) -> Result<Option<usize>, AllocError>
         requires below { All (AreBelow (length values.old)) clauses.now }
-        ensures reached { OnOk result (Reaches clauses.now values.old values.new) }
+        ensures grown { OnOk result (Grows clauses.now values.old trail.old.items values.new trail.new.items) }
         ensures falsified { IfOk result (λ found. IfSome found (λ place. IsFalsifiedAt clauses.now values.new place)) }
     {
         let mut at = 0;
@@ -267,7 +267,7 @@ impl Watches {
         falsified: Literal,
     ) -> Result<Option<usize>, AllocError>
         requires below { All (AreBelow (length values.old)) clauses.now }
-        ensures reached { OnOk result (Reaches clauses.now values.old values.new) }
+        ensures grown { OnOk result (Grows clauses.now values.old trail.old.items values.new trail.new.items) }
         ensures falsified { IfOk result (λ found. IfSome found (λ place. IsFalsifiedAt clauses.now values.new place)) }
     {
         let mut list = self.exchange(falsified, Vec::new(alloc));
@@ -288,7 +288,7 @@ impl Watches {
         from: usize,
     ) -> Result<Option<usize>, AllocError>
         requires below { All (AreBelow (length values.old)) clauses.now }
-        ensures reached { OnOk result (Reaches clauses.now values.old values.new) }
+        ensures grown { OnOk result (Grows clauses.now values.old trail.old.items values.new trail.new.items) }
         ensures falsified { IfOk result (λ found. IfSome found (λ place. IsFalsifiedAt clauses.now values.new place)) }
     {
         'steps: for place in from..values.len() {
@@ -312,7 +312,7 @@ impl Watches {
         trail: &mut Vec<Step>,
     ) -> Result<Option<usize>, AllocError>
         requires below { All (AreBelow (length values.old)) clauses.now }
-        ensures reached { OnOk result (Reaches clauses.now values.old values.new) }
+        ensures grown { OnOk result (Grows clauses.now values.old trail.old.items values.new trail.new.items) }
         ensures falsified { IfOk result (λ found. IfSome found (λ place. IsFalsifiedAt clauses.now values.new place)) }
     {
         'shorts: for at in 0..self.short.len() {

@@ -2,6 +2,7 @@
 ghost use Rattle.std.specs.Prelude.{◌≤◌, ◌<◌};
 ghost use Rattle.solver_tests.specs.Questions.{IsQuestion};
 
+use super::numbers::Numbers;
 use super::{
     BUDGET, MOST_FEATURES, and, clauses_for, feat, iff, implies, is_set, not, or, selection_of,
     truth,
@@ -11,25 +12,6 @@ use refutation_check::{check_least, check_refutation};
 use sat_core::{Answer, solve};
 use std::alloc::{AllocError, Global};
 use std::test::Fail;
-
-/// Numbers that look random.
-#[derive(Drop)]
-struct Numbers {
-    state: u32,
-}
-
-impl Numbers {
-    fn below(&mut self, bound: u32) -> u32
-        requires { 0 < bound }
-        ensures { result < bound }
-    {
-        self.state = self
-            .state
-            .wrapping_mul(1_664_525)
-            .wrapping_add(1_013_904_223);
-        (self.state >> 16) % bound
-    }
-}
 
 /// A formula of a depth over so many features.
 fn some_formula(
@@ -136,7 +118,7 @@ fn question(
 ) -> Result<Formula, AllocError>
     requires { 0 < features }
 {
-    let formula = some_formula(alloc, numbers, features, 1 + number % 3)?;
+    let formula = some_formula(alloc, numbers, features, 1 + number % 4)?;
     if number % 2 == 0 {
         return Ok(formula);
     }
@@ -150,10 +132,10 @@ fn question(
 #[test]
 fn the_solver_finds_what_a_plain_search_finds(rt: HostRuntime) -> Result<(), Fail> {
     let alloc = rt.alloc();
-    let mut numbers = Numbers { state: 1 };
+    let mut numbers = Numbers::new(1);
     let mut refuted = 0u32;
-    'circuits: for number in 0..240u32 {
-        let features = 1 + (number % 4) as u8;
+    'circuits: for number in 0..2_000u32 {
+        let features = 1 + (number % 6) as u8;
         let formula = question(alloc, &mut numbers, features, number)?;
         if plain_search(features, &formula).is_none() {
             refuted = refuted.saturating_add(1);
@@ -164,7 +146,7 @@ fn the_solver_finds_what_a_plain_search_finds(rt: HostRuntime) -> Result<(), Fai
         );
     }
     assert!(rt;
-        refuted > 20 && refuted < 220,
+        refuted > 100 && refuted < 1_900,
         "{refuted} of the circuits are never true"
     );
     Ok(())

@@ -1,0 +1,70 @@
+//! Places on trails.
+
+ghost use Rattle.std.specs.Prelude.{◌≡◌, ◌<◌, ◌≤◌, ℕ, length, slice_get, IfSome, IfNone, Some, None};
+ghost use Rattle.unit_propagation.specs.declared.trail.Step.{Step as TrailStep};
+ghost use Rattle.clause_learning.specs.Decided.{AreBelowIn, AreCaused, IsLastDecision};
+ghost use Rattle.clause_learning.specs.Denials.{IsMarked};
+
+use crate::marks::is_marked_at;
+use unit_propagation::Step;
+
+/// The place of the last decision.
+pub fn last_decision(trail: &[Step]) -> Option<usize>
+    ensures some { IfSome result (λ place. IsLastDecision trail.now place) }
+    ensures none { IfNone result (AreCaused trail.now 0) }
+{
+    let mut above = trail.len();
+    'steps: while above > 0 {
+        above -= 1;
+        if trail[above].cause.is_none() {
+            return Some(above);
+        }
+    }
+    None
+}
+
+/// The first decision between two places, or the second place.
+pub(crate) fn first_decision(trail: &[Step], from: usize, to: usize) -> usize
+    requires to { to ≤ length trail.now }
+    requires from { from ≤ to }
+    ensures within { result ≤ to }
+    ensures first { (j : ℕ) (s : TrailStep) → j < result → slice_get trail.now j ≡ Some s → s.cause ≡ None → j < from }
+{
+    let mut place = from;
+    'steps: while place < to {
+        if trail[place].cause.is_none() {
+            return place;
+        }
+        place += 1;
+    }
+    to
+}
+
+/// The last step before a place whose variable is marked.
+pub(crate) fn last_marked(trail: &[Step], marks: &[bool], to: usize) -> Option<usize>
+    requires to { to ≤ length trail.now }
+    requires below { AreBelowIn (length marks.now) trail.now }
+    ensures { IfSome result (λ place. (place < to) × ((s : TrailStep) → slice_get trail.now place ≡ Some s → IsMarked marks.now s.literal.var)) }
+{
+    let mut above = to;
+    'steps: while above > 0 {
+        above -= 1;
+        if is_marked_at(marks, trail, above) {
+            return Some(above);
+        }
+    }
+    None
+}
+
+/// The place of the first decision behind the last marked step before the last decision, or the last decision's.
+pub(crate) fn target_of(trail: &[Step], last: Option<usize>, decision: usize) -> usize
+    requires to { decision ≤ length trail.now }
+    requires last { IfSome last (λ place. place < decision) }
+    ensures within { result ≤ decision }
+    ensures first { (j : ℕ) (s : TrailStep) → j < result → slice_get trail.now j ≡ Some s → s.cause ≡ None → (place : ℕ) × (last ≡ Some place) × (j ≤ place) }
+{
+    match last {
+        Some(place) => first_decision(trail, place + 1, decision),
+        None => first_decision(trail, 0, decision),
+    }
+}

@@ -284,8 +284,8 @@ other_line s t w h =
 -- behind a word that begins a line
 line_counted : (s : State) (t : Tally) (w : List ℕ) (b : Bool) → IsCounted before_class (in_hand s) t
     → IfSome (if b && not (is_two s.format) then to AfterFormat (record s { mode = Begin }) else
-        if bytes_eq w features_word then to AfterFeatures (record s { mode = Begin }) else opens_constraint (record s { mode = Begin }) w)
-      (λ n. Counted n (counted t (if b then format_line else used_name w)))
+    if bytes_eq w features_word then to AfterFeatures (record s { mode = Begin }) else opens_constraint (record s { mode = Begin }) w)
+    (λ n. Counted n (counted t (if b then format_line else used_name w)))
 line_counted s t w true h =
     let k = formatted Two h in
     if_either (not (is_two s.format)) (record s { mode = AfterFormat })

@@ -260,7 +260,7 @@ kept x w r =
     let classes_roles : List Role = in_order roles_class x.classes [] in
     let classes_tokens : List Token = in_order spell_class x.classes [] in
     let line : FeaturesKept (in_format x.format) features (in_order roles_constraint x.constraints classes_roles) (in_order spell_constraint x.constraints classes_tokens) = line_kept x.format features (in_order roles_constraint x.constraints classes_roles) (in_order spell_constraint x.constraints classes_tokens)
-        (format_kept x.format _ w) (format_read x.format _ r) in
+    (format_kept x.format _ w) (format_read x.format _ r) in
     let t : Tally = record (in_format x.format) { features = line.names } in
     let some : ConstraintsKept (length features) t (map (value_iff features) x.constraints) classes_roles classes_tokens = constraints_kept features t x.constraints classes_roles classes_tokens (omega arith) line.within line.read in
     let u : Tally = record t { marks = some.marks; formula_nodes = t.formula_nodes + sum_by formula_node_count (map (value_iff features) x.constraints) } in

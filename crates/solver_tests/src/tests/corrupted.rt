@@ -3,7 +3,7 @@ ghost use Rattle.std.specs.Prelude.{◌≡◌, ◌≤◌, ◌<◌};
 ghost use Rattle.solver_tests.specs.Questions.{IsQuestion};
 
 use super::numbers::Numbers;
-use super::{BUDGET, clauses_for, feat, not, or, and};
+use super::{BUDGET, and, clauses_for, feat, not, or};
 use cfj_logic::{Clause, Clauses, FeatureSet, Formula, Literal, Log};
 use cfj_words::Items;
 use refutation_check::{check_refutation, literals};
@@ -114,7 +114,13 @@ fn slow_check(alloc: Global, clauses: &Clauses, log: &[Clause]) -> Result<bool, 
     let mut before = Vec::new(alloc);
     let mut is_refuted = false;
     'log: for clause in log {
-        if !may_follow(alloc, clauses.vars, premises.as_slice(), before.as_slice(), clause)? {
+        if !may_follow(
+            alloc,
+            clauses.vars,
+            premises.as_slice(),
+            before.as_slice(),
+            clause,
+        )? {
             return Ok(false);
         }
         is_refuted = is_refuted || clause.is_empty();
@@ -200,7 +206,11 @@ fn turns_agree(
     'features: for feature in 0..FEATURES {
         let mut other = Vec::new(alloc);
         'list: for (at, clause) in list.iter().enumerate() {
-            let changed = if at == place { turned(clause, feature) } else { None };
+            let changed = if at == place {
+                turned(clause, feature)
+            } else {
+                None
+            };
             other.push(changed.unwrap_or(*clause))?;
         }
         agrees = agrees && checks_agree(alloc, clauses, other.as_slice())?;

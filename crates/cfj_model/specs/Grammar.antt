@@ -1,4 +1,5 @@
--- The grammar of projects: concrete-syntax trees, the tokens that a tree spells, and the product line that it stands for.
+-- The grammar of projects: concrete-syntax trees, the tokens that a tree spells, and the product line that it stands
+-- for.
 use Rattle.std.specs.Prelude.{ℕ, ◌+◌, List, [], ◌∷◌, map, codes}
 use Rattle.cfj_model.specs.declared.class.Field.{Field}
 use Rattle.cfj_model.specs.declared.class.Param.{Param}
@@ -45,7 +46,8 @@ pub record ClassTree : Type 0 where
   pub assigns : List Named
   pub methods : List MethodTree
 
--- a project: its format, which is Two where a line says so, its features, in a line where there are any, its constraints and its classes
+-- a project: its format, which is Two where a line says so, its features, in a line where there are any, its
+-- constraints and its classes
 pub record Tree : Type 0 where
   pub format : Format
   pub features : List (List ℕ)

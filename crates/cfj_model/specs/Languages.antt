@@ -10,8 +10,8 @@ use Rattle.cfj_model.specs.Grammar.{Tree, spell, value, ClassTree, spell_class, 
 use Rattle.cfj_model.specs.TreeRoles.{roles, roles_class}
 use Rattle.cfj_model.specs.Roles.{Role, Tally, nothing, AreWithin}
 
--- A language: its trees, the tokens that a tree spells, their roles, the value that a tree stands for, and what counts as met
--- before a text begins.
+-- A language: its trees, the tokens that a tree spells, their roles, the value that a tree stands for, and what
+-- counts as met before a text begins.
 pub record Language (V : Type 0) : Type 1 where
   pub Tree : Type 0
   pub spell : Tree → List Token → List Token

@@ -61,11 +61,25 @@ constructors format features class =
 
 -- single fields
 abbrev pub single_fields : Format → List (List ℕ) → Language Field
-single_fields format features = record { Tree = Declared; spell = spell_field; roles = roles_field; value = value_field features; met = with_features format features }
+single_fields format features =
+    record {
+      Tree = Declared;
+      spell = spell_field;
+      roles = roles_field;
+      value = value_field features;
+      met = with_features format features;
+    }
 
 -- single methods
 abbrev pub single_methods : Format → List (List ℕ) → Language Method
-single_methods format features = record { Tree = MethodTree; spell = spell_method; roles = roles_method; value = value_method features; met = with_features format features }
+single_methods format features =
+    record {
+      Tree = MethodTree;
+      spell = spell_method;
+      roles = roles_method;
+      value = value_method features;
+      met = with_features format features;
+    }
 
 -- a field or a method
 pub data MemberTree : Type 0 where
@@ -88,7 +102,14 @@ value_member features (a_method m) = member.Method (value_method features m)
 
 -- single fields and methods
 abbrev pub single_members : Format → List (List ℕ) → Language Member
-single_members format features = record { Tree = MemberTree; spell = spell_member; roles = roles_member; value = value_member features; met = with_features format features }
+single_members format features =
+    record {
+      Tree = MemberTree;
+      spell = spell_member;
+      roles = roles_member;
+      value = value_member features;
+      met = with_features format features;
+    }
 
 -- names
 abbrev pub names : Language (List ℕ)

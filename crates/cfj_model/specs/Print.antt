@@ -1,5 +1,6 @@
--- The printed form of a product line. The colours of CIDE (Kästner, Apel, Kuhlemann, ICSE 2008) are marks before their nodes;
--- where no features are given there are none. The `!` of a mark and the line for format Two are this project's own.
+-- The printed form of a product line. The colours of CIDE (Kästner, Apel, Kuhlemann, ICSE 2008) are marks before
+-- their nodes; where no features are given there are none. The `!` of a mark and the line for format Two are this
+-- project's own.
 use Rattle.std.specs.Prelude.{ℕ, Bool, true, false, nat_lt, List, [], ◌∷◌, ◌++◌, codes, flat_map, get_or, if◌then◌else◌}
 use Rattle.std.specs.List.{enumerate_from}
 use Rattle.cfj_model.specs.declared.class.Field.{Field}
@@ -181,7 +182,8 @@ printed line =
     ++ (features_text line.model.features
     ++ (texts (constraint_text line.model.features) line.model.constraints ++ texts (class_text line.model.features) line.classes))
 
--- of a feature of this number and name, `A` where it is wanted and `!A` where it is one that isn't, in this order where it is both
+-- of a feature of this number and name, `A` where it is wanted and `!A` where it is one that isn't, in this order
+-- where it is both
 abbrev pub signed_names : Sides → ℕ × List ℕ → List (List ℕ)
 signed_names colors feature =
     (if has_mark false feature.0 colors then feature.1 ∷ [] else [])

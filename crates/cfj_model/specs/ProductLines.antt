@@ -112,7 +112,14 @@ are_methods palette ms = nat_le (length ms) most_methods && method_alts_rise ms 
 
 -- what a project keeps of a class by itself
 unfoldable pub is_class : Palette → Class → Bool
-is_class palette k = is_short_identifier k.name && not (bytes_eq k.name object) && are_known palette k.colors && is_short_identifier k.parent && are_fields palette k.fields && is_ctor palette k.ctor && are_methods palette k.methods
+is_class palette k =
+    is_short_identifier k.name
+    && not (bytes_eq k.name object)
+    && are_known palette k.colors
+    && is_short_identifier k.parent
+    && are_fields palette k.fields
+    && is_ctor palette k.ctor
+    && are_methods palette k.methods
 
 -- a method, its parameters and its nodes
 abbrev pub method_size : Method → ℕ

@@ -1,5 +1,5 @@
--- Presence and projection, after CIDE (Kästner, Apel, Kuhlemann, ICSE 2008): a variant is made by removing each node that is
--- not present under a selection.
+-- Presence and projection, after CIDE (Kästner, Apel, Kuhlemann, ICSE 2008): a variant is made by removing each node
+-- that is not present under a selection.
 use Rattle.std.specs.Prelude.{Bool, ◌&&◌, ◌==◌, if◌then◌else◌, List, [], ◌∷◌, map, filter, flat_map, bit_and}
 use Rattle.cfj_model.specs.declared.class.Field.{Field}
 use Rattle.cfj_model.specs.declared.class.Param.{Param}
@@ -18,12 +18,14 @@ use Rattle.cfj_model.specs.ProductLines.{ProductLine}
 use Rattle.cfj_logic.specs.Sides.{Sides}
 use Rattle.cfj_logic.specs.Selections.{Chosen, is_subset}
 
--- A node's presence is its own colours and those of the optional nodes round it: of a node in a class, the class's too; of an
--- argument, those of the arguments and the method round it. A feature that is wanted there and one that isn't may be the same.
+-- A node's presence is its own colours and those of the optional nodes round it: of a node in a class, the class's
+-- too; of an argument, those of the arguments and the method round it. A feature that is wanted there and one that
+-- isn't may be the same.
 abbrev pub presence_of : Sides → Sides → Sides
 presence_of around own = union around own
 
--- A node is present where every mark of its presence holds: all features that it wants are selected, and none of the others is.
+-- A node is present where every mark of its presence holds: all features that it wants are selected, and none of the
+-- others is.
 abbrev pub is_present : Chosen → Sides → Bool
 is_present s presence = is_subset presence.on s.on && (bit_and presence.off s.on == 0)
 
@@ -84,9 +86,19 @@ present_methods s around ms = map (projected_method s around) (filter (λ m. is_
 
 abbrev pub projected_class : Chosen → Class → Class
 projected_class s k =
-    record { name = k.name; colors = no_colors; parent = k.parent; fields = present_fields s k.colors k.fields; ctor = projected_ctor s k.colors k.ctor; methods = present_methods s k.colors k.methods }
+    record {
+      name = k.name;
+      colors = no_colors;
+      parent = k.parent;
+      fields = present_fields s k.colors k.fields;
+      ctor = projected_ctor s k.colors k.ctor;
+      methods = present_methods s k.colors k.methods;
+    }
 
 -- the variant of a selection: the present nodes, without features, constraints and colours, in format One
 unfoldable pub projected : Chosen → ProductLine → ProductLine
 projected s line =
-    record { model = record { format = One; features = []; constraints = [] }; classes = map (projected_class s) (filter (λ k. is_present s k.colors) line.classes) }
+    record {
+      model = record { format = One; features = []; constraints = [] };
+      classes = map (projected_class s) (filter (λ k. is_present s k.colors) line.classes);
+    }

@@ -11,11 +11,11 @@ use Rattle.cfj_model.specs.Coloring.{is_two}
 use Rattle.cfj_words.specs.Names.{is_among, most_name_bytes}
 use Rattle.cfj_model.specs.ProductLines.{object, most_features, most_classes, most_fields, most_methods, most_params, most_in_ctor, most_formula_nodes, most_nest, most_nodes, most_size}
 
--- What a token is. The word of the line for format Two. Names: of a declared feature, in a mark, in a formula, of a feature elsewhere,
--- of a class, a field, a method, a parameter of a constructor, one of a method, sent, the first of an assignment, of a variable, and any
--- other. The `!` of a mark. In formulas: a constant or a connective, and one that is open over what follows. Brackets that open: of a
--- cast, and of anything else that nests; with the number that is open with it. The own token of an expression's node that is no name,
--- and any other token.
+-- What a token is. The word of the line for format Two. Names: of a declared feature, in a mark, in a formula, of a
+-- feature elsewhere, of a class, a field, a method, a parameter of a constructor, one of a method, sent, the first of
+-- an assignment, of a variable, and any other. The `!` of a mark. In formulas: a constant or a connective, and one
+-- that is open over what follows. Brackets that open: of a cast, and of anything else that nests; with the number
+-- that is open with it. The own token of an expression's node that is no name, and any other token.
 pub data Role : Type 0 where
   format_line : Role
   feature_name : List ℕ → Role
@@ -39,11 +39,11 @@ pub data Role : Type 0 where
   node : Role
   other_token : Role
 
--- What has been met before a place: the format, the features, the nodes of all formulas, the marks of the node in hand, all class names, how
--- many members, parameters, sent names and assignments the class in hand has, the names of the parameters of the method in hand, the
--- nodes of the body in hand, and the size. Marks end at a name
--- that is declared or used, at a bracket that opens and at the own token of an expression's node: what else stands between, as
--- `class` or `this`, ends none.
+-- What has been met before a place: the format, the features, the nodes of all formulas, the marks of the node in
+-- hand, all class names, how many members, parameters, sent names and assignments the class in hand has, the names of
+-- the parameters of the method in hand, the nodes of the body in hand, and the size. Marks end at a name that is
+-- declared or used, at a bracket that opens and at the own token of an expression's node: what else stands between,
+-- as `class` or `this`, ends none.
 pub record Tally : Type 0 where
   pub format : Format
   pub features : List (List ℕ)
@@ -173,7 +173,8 @@ past_size t = is_past most_size t.size limit.Size
 abbrev pub past_ctor : ℕ → Bool × FaultKind
 past_ctor count = is_past most_in_ctor count limit.Ctor
 
--- Which rule or limit a token in this role breaks behind these, the first of them in the order of the faults of one token.
+-- Which rule or limit a token in this role breaks behind these, the first of them in the order of the faults of one
+-- token.
 abbrev pub broken_by : Tally → Role → Option FaultKind
 broken_by t format_line = None
 broken_by t (feature_name w) = first_of (too_long w ∷ is_repeated t.features w ∷ is_past most_features (length t.features) limit.Features ∷ [])
@@ -206,7 +207,8 @@ abbrev pub AreWithin : Tally → List Role → Type 0
 AreWithin t [] = Unit {0}
 AreWithin t (r ∷ rs) = (broken_by t r ≡ None) × AreWithin (counted t r) rs
 
--- A bracket is a cast's only where three tokens stand behind it: a name, the bracket that closes, and one that begins an operand.
+-- A bracket is a cast's only where three tokens stand behind it: a name, the bracket that closes, and one that begins
+-- an operand.
 abbrev pub is_settled : Role → List Role → Bool
 is_settled (casts n) rs = nat_le 3 (length rs)
 is_settled _ rs = true

@@ -1,4 +1,5 @@
--- The laws of the reader: it reads exactly the expressions; what it has read is how a text begins; and what a project keeps.
+-- The laws of the reader: it reads exactly the expressions; what it has read is how a text begins; and what a project
+-- keeps.
 use Rattle.std.specs.Prelude.{◌≡◌, ℕ, ◌+◌, ◌≤◌, true, false, List, [], ◌∷◌, ◌++◌, length, Some, None}
 use Rattle.cfj_model.specs.Expressions.{node_count}
 use Rattle.cfj_model.specs.ExpressionGrammar.{ExprTree, spell_expr, roles_expr, value_expr}
@@ -50,8 +51,8 @@ IsSlotted s t = s.slot + owed s.mode ≤ t.nodes
 abbrev pub SlotsKeepUp : Type 0
 SlotsKeepUp = (features : List (List ℕ)) (s n : State) (token : Token) (t : Tally) → step features s token ≡ Some n → IsSlotted s t → IsSlotted n (tallied t (emitted s token))
 
--- What is known behind the tokens of a body: what a project keeps of the body, over these features and in the format that was met, and
--- that its nodes were counted, before these roles and tokens.
+-- What is known behind the tokens of a body: what a project keeps of the body, over these features and in the format
+-- that was met, and that its nodes were counted, before these roles and tokens.
 pub record IsKept (features : List (List ℕ)) (t : Tally) (x : ExprTree) (rest : List Role) (more : List Token) : Type 0 where
   pub is : is_body (record { features = length features; format = t.format }) (value_expr features 0 x).0 ≡ true
   pub marks : List (List ℕ)

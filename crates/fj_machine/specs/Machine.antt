@@ -39,10 +39,11 @@ unnamed = codes "this"
 abbrev pub no_ctor : Constructor
 no_ctor = record { params = []; sends = []; assigns = [] }
 
--- The format, features, constraints and classes that are read, the formula in hand, the class in hand with its colours, the lists in hand of
--- its constructor or of a method, the constructor that is read, the method in hand with its colours and the expression in hand, the
--- colours of the marks in hand, the type and the name that were read last, and the mode. A list or a set that isn't in hand is
--- empty, a name is `unnamed`, and a formula or an expression is before its first token.
+-- The format, features, constraints and classes that are read, the formula in hand, the class in hand with its
+-- colours, the lists in hand of its constructor or of a method, the constructor that is read, the method in hand with
+-- its colours and the expression in hand, the colours of the marks in hand, the type and the name that were read
+-- last, and the mode. A list or a set that isn't in hand is empty, a name is `unnamed`, and a formula or an
+-- expression is before its first token.
 pub record State : Type 0 where
   pub mode : Mode
   pub format : Format
@@ -300,7 +301,8 @@ step_in _ s t = None
 
 -- the product line in this format, with these features, constraints and classes
 abbrev pub of_parts : Format → List (List ℕ) → List Formula → List Class → ProductLine
-of_parts format features constraints classes = record { model = record { format = format; features = features; constraints = constraints }; classes = classes }
+of_parts format features constraints classes =
+    record { model = record { format = format; features = features; constraints = constraints }; classes = classes }
 
 -- what a state stands for
 abbrev pub stands_for : State → ProductLine

@@ -1,5 +1,5 @@
--- No public contract cites this: it serves the proofs.
--- The machine where it reads a part of a project by itself: where it starts, and which tokens it takes there and at the part's end.
+-- No public contract cites this: it serves the proofs. The machine where it reads a part of a project by itself:
+-- where it starts, and which tokens it takes there and at the part's end.
 use Rattle.std.specs.Prelude.{ℕ, Bool, true, false, ◌&&◌, if◌then◌else◌, List, [], ◌∷◌, Option, Some, None}
 use Rattle.std.specs.Str.{bytes_eq}
 use Rattle.cfj_model.specs.declared.class.Class.{Class}
@@ -14,7 +14,8 @@ use Rattle.fj_parser.specs.declared.goal.Goal.TheVariants as goal
 use Rattle.fj_machine.specs.declared.mode.Mode.{Mode}
 use Rattle.fj_machine.specs.declared.mode.Mode.TheVariants.{Begin, Start, BetweenClasses, InMembers, AfterType, InMethods, AfterMethodName, InExpression, AfterBody, AtEnd}
 
--- Before the first token: of a class or a member in this format and with these features, of a constructor of the class of this name too.
+-- Before the first token: of a class or a member in this format and with these features, of a constructor of the
+-- class of this name too.
 abbrev pub start_for : Goal → Format → List (List ℕ) → List ℕ → State
 start_for goal.Project format features class = start
 start_for goal.Model format features class = start

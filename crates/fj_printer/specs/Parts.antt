@@ -1,3 +1,4 @@
+-- No public contract cites this: it serves the proofs.
 -- Parts of the printed form.
 use Rattle.std.specs.Prelude.{ℕ, Bool, true, false, List, ◌++◌, codes}
 use Rattle.cfj_model.specs.declared.class.Class.{Class}

@@ -29,7 +29,7 @@ _cide() {
     fi
     case ${COMP_WORDS[1]},${COMP_WORDS[COMP_CWORD - 1]},$word in
         check,--budget,*) ;;
-        check,*,-*) mapfile -t COMPREPLY < <(compgen -W "--budget" -- "$word") ;;
+        check,*,-*) mapfile -t COMPREPLY < <(compgen -W "--budget --migrate" -- "$word") ;;
         check,*,* | export,export,*) _cide_files "$word" ;;
         export,*,*) if [ "$COMP_CWORD" = 3 ]; then _cide_names "${COMP_WORDS[2]}" "$word"; fi ;;
     esac

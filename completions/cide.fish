@@ -19,6 +19,7 @@ end
 
 complete -c cide -n 'test (count (commandline -opc)) -eq 1' -f -a check -d 'check that the variant of every valid selection is well typed'
 complete -c cide -n 'test (count (commandline -opc)) -eq 1' -f -a export -d 'print the variant of a valid selection'
-complete -c cide -n '__fish_seen_subcommand_from check' -l budget -x -d 'try at most so many selections, 1 to 20000'
+complete -c cide -n '__fish_seen_subcommand_from check; and not __fish_contains_opt migrate' -l budget -x -d 'try at most so many selections, 1 to 20000'
+complete -c cide -n '__fish_seen_subcommand_from check; and not __fish_contains_opt budget' -l migrate -d 'print the project as one of format two'
 complete -c cide -n '__fish_seen_subcommand_from export; and not __cide_at export 2' -f
 complete -c cide -n '__cide_at export 3' -f -a '(__cide_names)'

@@ -17,6 +17,9 @@ const MOST_BYTES: usize = 4_194_304;
 /// The features that the marks of a part may name.
 const FEATURES: &[u8] = b"features F, G;";
 
+/// The same in format two.
+const SIGNED_FEATURES: &[u8] = b"format2; features F, G;";
+
 /// What is told of the text of a part.
 pub fn read_part<'a>(alloc: Global, section: Section<'a>) -> Result<Answer, CaseFault<'a>> {
     let content = Content::of(alloc, section.content, None)?;
@@ -42,6 +45,14 @@ fn told(alloc: Global, kind: &str, text: &str) -> Result<Option<Answer>, AllocEr
     })
 }
 
+/// The kind of a part whose nodes may be marked, and the model with the features that marks may name.
+fn kind_and_model(kind: &str) -> (&str, &'static [u8]) {
+    match kind.strip_prefix("signed ") {
+        Some(kind) => (kind, SIGNED_FEATURES),
+        None => (kind, FEATURES),
+    }
+}
+
 /// A text's first fault.
 fn refusal(alloc: Global, fault: ParseFault) -> Result<Answer, AllocError> {
     match fault {
@@ -60,6 +71,7 @@ fn words_told(alloc: Global, text: &str) -> Result<Answer, AllocError> {
     };
     let line = match read_words(alloc, words.as_slice()) {
         Ok(Asked::Check { project, budget }) => format!(in alloc; "check `{project}` {budget}")?,
+        Ok(Asked::Migrate { project }) => format!(in alloc; "check `{project}` --migrate")?,
         Ok(Asked::Export { project, names }) => format!(in alloc; "export `{project}` `{names}`")?,
         Err(_) => return Answer::refusal(alloc, "no command"),
     };
@@ -166,8 +178,8 @@ fn expression_told(alloc: Global, text: &str) -> Result<Answer, AllocError> {
 
 /// What is told of a text whose marks name the features `F` and `G`.
 fn marked_told(alloc: Global, kind: &str, text: &str) -> Result<Option<Answer>, AllocError> {
-    let features = FEATURES;
-    let Ok(project) = parse_project(alloc, features) else {
+    let (kind, model) = kind_and_model(kind);
+    let Ok(project) = parse_project(alloc, model) else {
         return Ok(None);
     };
     Ok(match kind {

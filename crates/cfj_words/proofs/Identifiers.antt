@@ -23,8 +23,15 @@ constraint_is_identifier =
 pub format_is_identifier : is_identifier (codes "format2") ≡ true
 unfolding is_identifier is_reserved is_utf8 chars encode
 format_is_identifier =
-    rw (is_xid_start-ascii 102 (lit< tt), is_xid_continue-ascii 111 (lit< tt), is_xid_continue-ascii 114 (lit< tt), is_xid_continue-ascii 109 (lit< tt),
-        is_xid_continue-ascii 97 (lit< tt), is_xid_continue-ascii 116 (lit< tt), is_xid_continue-ascii 50 (lit< tt)) refl
+    rw (
+      is_xid_start-ascii 102 (lit< tt),
+      is_xid_continue-ascii 111 (lit< tt),
+      is_xid_continue-ascii 114 (lit< tt),
+      is_xid_continue-ascii 109 (lit< tt),
+      is_xid_continue-ascii 97 (lit< tt),
+      is_xid_continue-ascii 116 (lit< tt),
+      is_xid_continue-ascii 50 (lit< tt),
+    ) refl
 
 -- and each word that isn't reserved
 pub word_is_identifier : (cs : List ℕ) → all_scalars cs ≡ true → is_word cs ≡ true → is_reserved (encode_utf8_all cs) ≡ false → is_identifier (encode_utf8_all cs) ≡ true

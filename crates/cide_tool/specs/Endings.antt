@@ -1,7 +1,8 @@
 -- How a run ends: each status with its cause, what standard output gains, and the line on standard error.
 use Rattle.std.specs.Prelude.{ℕ, List, [], Option, Some, None, Result, Ok, Err}
 use Rattle.cfj_model.specs.declared.fault.FaultKind.{FaultKind}
-use Rattle.cfj_model.specs.ProductLines.{ProductLine}
+use Rattle.cfj_model.specs.Print.{printed}
+use Rattle.cfj_model.specs.ProductLines.{ProductLine, in_format_two}
 use Rattle.cfj_logic.specs.Selections.{Chosen}
 use Rattle.cfj_logic.specs.Validity.{IsValid, IsFirstFalse}
 use Rattle.cide_io.specs.declared.faults.Failed.{Failed}
@@ -35,6 +36,7 @@ refused status line = record { status = status; output = []; line = line }
 -- the name of the project that a command reads
 abbrev pub project_of : Asked → List ℕ
 project_of (Asked.check project budget) = project
+project_of (Asked.migrate project) = project
 project_of (Asked.export project names) = project
 
 -- The ways to end for which the words and the inputs are the cause, by their statuses. All but `checked` say one
@@ -45,6 +47,10 @@ pub data Ends (inputs : List ℕ → Known) : Option Asked → Ending → Type 0
       → StandsFor (inputs name) line → IsSpelled line.model.features (named_parts names) s
       → IsValid line.model.constraints s
       → Ends inputs (Some (Asked.export name names)) (done 0 (variant_text line s))
+  -- 0: the project is printed as one of format two
+  migrated : (name : List ℕ) (line : ProductLine)
+      → StandsFor (inputs name) line
+      → Ends inputs (Some (Asked.migrate name)) (done 0 (printed (in_format_two line)))
   -- 0, 1 or 2: the findings are printed
   checked : (name : List ℕ) (budget : ℕ) (line : ProductLine) (v : Verdict) (es : List Entry)
       → StandsFor (inputs name) line → IsFound line budget v es

@@ -8,6 +8,7 @@ ghost use Rattle.cide_tool.specs.Refusals.{IsAnswer};
 
 use crate::check::check;
 use crate::export::export;
+use crate::migrate::migrate;
 use crate::refusal::Refusal;
 use cide_io::{Room, Sink, put_all};
 use command_words::{Asked, read_words};
@@ -26,6 +27,7 @@ fn answer<R: Room, O: Sink>(
 {
     match read_words(alloc, words)? {
         Asked::Check { project, budget } => check(alloc, project, budget, room, out),
+        Asked::Migrate { project } => migrate(alloc, project, room, out),
         Asked::Export { project, names } => export(alloc, project, names, room, out),
     }
 }

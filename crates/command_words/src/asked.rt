@@ -10,6 +10,11 @@ pub enum Asked<'a> {
         /// The most clauses of a log, from 1 to 20,000.
         budget: u32,
     },
+    /// Print a project as one of format two.
+    Migrate {
+        /// The project's name.
+        project: &'a str,
+    },
     /// Print one variant of a project.
     Export {
         /// The project's name.

@@ -2,7 +2,7 @@
 
 ghost use Rattle.std.specs.Prelude.{◌≡◌, ◌↔◌, Err, IfOk, true, false, option_map};
 ghost use Rattle.clap.specs.Words.{app_of, first_of, found_of, is_simple_and_free, kind_of, matches_of, rows_of};
-ghost use Rattle.command_words.specs.Asked.{takes_words};
+ghost use Rattle.command_words.specs.Asked.{is_given, takes_words};
 ghost use Rattle.command_words.specs.Reading.{texts};
 
 use crate::asked::WordsFault;
@@ -43,4 +43,11 @@ pub fn value_of<'a>(matches: &ArgMatches<'a>, id: &str) -> Option<&'a str>
     ensures { option_map (λ text. text.now) result ≡ first_of id.now (rows_of (found_of matches.now)) }
 {
     matches.get_str(id)
+}
+
+/// Whether a flag is given.
+pub fn is_given(matches: &ArgMatches<'_>, flag: &str) -> bool
+    ensures { result ≡ is_given flag.now (rows_of (found_of matches.now)) }
+{
+    matches!(value_of(matches, flag), Some("true"))
 }

@@ -98,8 +98,8 @@ new_known p f true c below may new h =
       on_below = h.on_below;
       off_below = or_lt p.features c.off (2 ^ f) h.off_below (pow-lt below);
       apart =
-        and_comm c.on (bit_or c.off (2 ^ f)) ∙ and_or_apart c.on c.off (2 ^ f) (and_comm (2 ^ f) c.on ∙ shares_none c.on f bits.0)
-        ∙ and_comm c.off c.on ∙ h.apart;
+          and_comm c.on (bit_or c.off (2 ^ f)) ∙ and_or_apart c.on c.off (2 ^ f) (and_comm (2 ^ f) c.on ∙ shares_none c.on f bits.0)
+          ∙ and_comm c.off c.on ∙ h.apart;
       allowed = or_left (is_two p.format) (bit_or c.off (2 ^ f) == 0) (is_two_of (is_two p.format) may);
     }
 

@@ -369,8 +369,8 @@ is_no_format_word : (w : List ℕ) → bytes_eq w format_word ≡ false → (for
 unfolding run_of
 is_no_format_word w h format ts =
     ap (λ b. then_run (run ts) ((if b then format_line else used_name w) ∷ [])
-        (if b && not (is_two format) then to AfterFormat (start_in format) else
-         if bytes_eq w features_word then to AfterFeatures (start_in format) else opens_constraint (start_in format) w)) h
+    (if b && not (is_two format) then to AfterFormat (start_in format) else
+    if bytes_eq w features_word then to AfterFeatures (start_in format) else opens_constraint (start_in format) w)) h
 
 -- the line for format Two, where there is one
 format_run : (format : Format) (ts : List Token) → run (spell_format format ts) start ≡ with_roles (roles_format format) (run ts (start_in format))
@@ -378,8 +378,8 @@ unfolding run_of
 format_run One ts = refl
 format_run Two ts =
     ap (λ b. then_run (run (Semicolon ∷ ts)) ((if b then format_line else used_name format_word) ∷ [])
-        (if b && true then to AfterFormat start else
-         if bytes_eq format_word features_word then to AfterFeatures start else opens_constraint start format_word)) (same_name format_word)
+    (if b && true then to AfterFormat start else
+    if bytes_eq format_word features_word then to AfterFeatures start else opens_constraint start format_word)) (same_name format_word)
 
 -- the features after the first, and the semicolon
 more_features_run : (fs : List (List ℕ)) (ts : List Token) (s : State) → run (each_behind Comma spell_name fs (Semicolon ∷ ts)) (record s { mode = AfterFeature }) ≡ with_roles (λ rs. each_behind other_token roles_feature fs (other_token ∷ rs)) (run ts (record s { mode = Start; features = s.features ++ fs }))

@@ -1,5 +1,5 @@
 -- No more is in hand than what was counted.
-use Rattle.std.proofs.Common.{◌≡◌, ℕ, ◌+◌, ◌<◌, ◌≤◌, Bool, true, false, List, [], ◌∷◌, ◌++◌, length, Option, Some, None, IfSome, refl, sym, subst, arith, length-append, cond}
+use Rattle.std.proofs.Common.{◌≡◌, ℕ, ◌+◌, ◌<◌, ◌≤◌, Bool, true, false, not, ◌&&◌, if◌then◌else◌, List, [], ◌∷◌, ◌++◌, length, Option, Some, None, IfSome, refl, sym, subst, arith, length-append, cond}
 use Rattle.std.proofs.lemmas.Bool.{and_parts, leb-false}
 use Rattle.std.specs.List.{list_all}
 use Rattle.std.specs.Prelude.{nat_le}
@@ -10,10 +10,13 @@ use Rattle.cfj_model.specs.declared.expr.Expr.{Expr}
 use Rattle.cfj_model.specs.declared.fault.FaultKind.TheVariants.{Twice, Limit}
 use Rattle.cfj_model.specs.declared.fault.LimitKind.TheVariants as limit
 use Rattle.cfj_logic.specs.declared.formula.Formula.{Formula}
-use Rattle.cfj_model.specs.Grammar.{constraint_word, features_word}
+use Rattle.cfj_model.specs.Coloring.{is_two}
+use Rattle.cfj_model.specs.declared.feature_model.Format.{Format}
+use Rattle.cfj_model.specs.declared.feature_model.Format.TheVariants.{Two}
+use Rattle.cfj_model.specs.Grammar.{constraint_word, features_word, format_word}
 use Rattle.cfj_model.specs.ProductLines.{most_features, most_in_ctor, most_nodes, most_params}
 use Rattle.cfj_words.specs.Names.{is_among}
-use Rattle.cfj_model.specs.Roles.{Role, feature_name, mark_name, class_name, field_name, method_name, param_name, method_param_name, sent_name, assigned_name, var_name, used_name, opens, casts, other_token, Tally, nothing, counted, tallied, with_node, broken_by, is_long, past_nest, past_nodes, past_size, AreWithin}
+use Rattle.cfj_model.specs.Roles.{Role, format_line, sign, feature_name, mark_name, class_name, field_name, method_name, param_name, method_param_name, sent_name, assigned_name, var_name, used_name, opens, casts, other_token, Tally, nothing, counted, tallied, with_node, broken_by, is_long, past_nest, past_nodes, past_size, AreWithin}
 use Rattle.cfj_model.specs.Roles as role
 use Rattle.cfj_words.specs.Tokens.{Token, Id, TrueWord, FalseWord, Bang, Ampersand, Bar, Arrow, DoubleArrow, ClassWord, ExtendsWord, SuperWord, ThisWord, ReturnWord, OpenBrace, CloseBrace, OpenParen, CloseParen, Semicolon, Comma, Dot, Equals, At, End}
 use Rattle.formula_reader.specs.Machine as formula
@@ -22,12 +25,12 @@ use Rattle.expression_reader.specs.Reading.{owed, is_role_of_body}
 use Rattle.expression_reader.proofs.Counting.{roles_of_body, slots_keep_up}
 use Rattle.fj_parser.specs.Accepting.{IsAccepted}
 use Rattle.fj_parser.specs.Counting.{Place, before_class, before_method, before_body, in_body, place_of, InHand, in_hand, IsCounted, Counted}
-use Rattle.fj_machine.specs.Machine.{unnamed, State, after_formula, in_formula, after_expression, in_expression, opens_constraint, step, step_in, emitted, start, reader}
+use Rattle.fj_machine.specs.Machine.{unnamed, State, after_formula, in_formula, after_expression, in_expression, opens_constraint, to, step, step_in, emitted, start, reader}
 use Rattle.fj_machine.specs.MachineViews.{IsRoomy}
 use Rattle.fj_machine.specs.declared.mode.Owner.TheVariants as owner
 use Rattle.fj_machine.specs.declared.mode.Node.TheVariants as node
 use Rattle.fj_machine.specs.declared.mode.Mode.{Mode}
-use Rattle.fj_machine.specs.declared.mode.Mode.TheVariants.{Begin, AfterFeatures, AfterFeature, AfterFeatureComma, Start, InConstraint, BetweenClasses, AfterAt, AfterMark, AfterMarkedType, AfterClass, AfterClassName, AfterExtends, AfterParent, InMembers, AfterType, AfterFieldName, InParams, AfterParamComma, AfterParamType, AfterParam, AfterParams, InBody, AfterSuper, InSends, AfterSendComma, AfterSend, AfterSends, InAssigns, AfterThis, AfterThisDot, AfterAssigned, AfterEquals, AfterSecondName, InMethods, AfterResult, AfterMethodName, InMethodBody, InExpression, AfterBody}
+use Rattle.fj_machine.specs.declared.mode.Mode.TheVariants.{Begin, AfterFormat, AfterFeatures, AfterFeature, AfterFeatureComma, Start, InConstraint, BetweenClasses, AfterAt, AfterMark, AfterMarkedType, AfterClass, AfterClassName, AfterExtends, AfterParent, InMembers, AfterType, AfterFieldName, InParams, AfterParamComma, AfterParamType, AfterParam, AfterParams, InBody, AfterSuper, InSends, AfterSendComma, AfterSend, AfterSends, InAssigns, AfterThis, AfterThisDot, AfterAssigned, AfterEquals, AfterSecondName, InMethods, AfterResult, AfterMethodName, InMethodBody, InExpression, AfterBody}
 use Rattle.fj_parser.proofs.KeptNames.{NoneHolds, none_holds, NameFits, name_fits, CountFits, count_fits}
 
 -- ---- the counts that a role changes
@@ -216,6 +219,7 @@ one_of_body t role.node is b h =
 one_of_body t (used_name w) is b h = marked [] h
 one_of_body t (mark_name w) is b h = marked (t.marks ++ w ∷ []) h
 one_of_body t (opens d) is b h = marked [] h
+one_of_body t sign is b h = h
 one_of_body t other_token is b h = h
 one_of_body t _ is b h = absurd (let no : ⊥ = cc is in no)
 
@@ -252,9 +256,47 @@ if_either : (b : Bool) (n : State) (o : Option State) (t : Tally) → Counted n 
 if_either true n o t h k = h
 if_either false n o t h k = k
 
+-- the same in another format
+formatted : {place : Place} {n : InHand} {t : Tally} (format : Format) → IsCounted place n t → IsCounted place n (record t { format = format })
+formatted format h =
+    record {
+      empty = h.empty;
+      features = h.features;
+      params = h.params;
+      sends = h.sends;
+      assigns = h.assigns;
+      slots = h.slots;
+      few_features = h.few_features;
+      few_params = h.few_params;
+      few_param_names = h.few_param_names;
+      few_sends = h.few_sends;
+      few_assigns = h.few_assigns;
+      few_nodes = h.few_nodes;
+    }
+
+-- behind a word of another line than that for format Two
+other_line : (s : State) (t : Tally) (w : List ℕ) → IsCounted before_class (in_hand s) t
+    → IfSome (if bytes_eq w features_word then to AfterFeatures (record s { mode = Begin }) else opens_constraint (record s { mode = Begin }) w) (λ n. Counted n t)
+other_line s t w h =
+    if_either (bytes_eq w features_word) (record s { mode = AfterFeatures }) (opens_constraint s w) t h
+    (if_so (bytes_eq w constraint_word) (record s { mode = InConstraint }) t h)
+
+-- behind a word that begins a line
+line_counted : (s : State) (t : Tally) (w : List ℕ) (b : Bool) → IsCounted before_class (in_hand s) t
+    → IfSome (if b && not (is_two s.format) then to AfterFormat (record s { mode = Begin }) else
+        if bytes_eq w features_word then to AfterFeatures (record s { mode = Begin }) else opens_constraint (record s { mode = Begin }) w)
+      (λ n. Counted n (counted t (if b then format_line else used_name w)))
+line_counted s t w true h =
+    let k = formatted Two h in
+    if_either (not (is_two s.format)) (record s { mode = AfterFormat })
+    (if bytes_eq w features_word then to AfterFeatures (record s { mode = Begin }) else opens_constraint (record s { mode = Begin }) w)
+    (record t { format = Two }) k (other_line s (record t { format = Two }) w k)
+line_counted s t w false h = other_line s (record t { marks = [] }) w (marked [] h)
+
 -- One more token that breaks nothing.
 pub counted_in : (m : Mode) (s : State) (t : Tally) (token : Token) → IsCounted (place_of m) (in_hand s) t → AreWithin t (emitted (record s { mode = m }) token) → IfSome (step_in m (record s { mode = m }) token) (λ n. Counted n (tallied t (emitted (record s { mode = m }) token)))
-counted_in Begin s t (Id w) h b = if_either (bytes_eq w features_word) (record s { mode = AfterFeatures }) (opens_constraint s w) (record t { marks = [] }) (marked [] h) (if_so (bytes_eq w constraint_word) (record s { mode = InConstraint }) (record t { marks = [] }) (marked [] h))
+counted_in Begin s t (Id w) h b = line_counted s t w (bytes_eq w format_word) h
+counted_in AfterFormat s t Semicolon h b = h
 counted_in Begin s t At h b = h
 counted_in Begin s t ClassWord h b = h
 counted_in Begin s t End h b = body_begun h
@@ -270,12 +312,24 @@ counted_in InConstraint s t token h b = formula_counted s (counted t (formula.ro
 counted_in BetweenClasses s t At h b = h
 counted_in BetweenClasses s t ClassWord h b = h
 counted_in BetweenClasses s t End h b = body_begun h
-counted_in (AfterAt node.Class) s t (Id w) h b = marked (t.marks ++ w ∷ []) h
-counted_in (AfterAt node.Member) s t (Id w) h b = marked (t.marks ++ w ∷ []) h
-counted_in (AfterAt node.Method) s t (Id w) h b = marked (t.marks ++ w ∷ []) h
-counted_in (AfterAt (node.Param o)) s t (Id w) h b = marked (t.marks ++ w ∷ []) h
-counted_in (AfterAt node.Send) s t (Id w) h b = marked (t.marks ++ w ∷ []) h
-counted_in (AfterAt node.Assign) s t (Id w) h b = marked (t.marks ++ w ∷ []) h
+counted_in (AfterAt node.Class off) s t (Id w) h b = marked (t.marks ++ w ∷ []) h
+counted_in (AfterAt node.Class false) s t Bang h b = h
+counted_in (AfterAt node.Class true) s t Bang h b = tt
+counted_in (AfterAt node.Member off) s t (Id w) h b = marked (t.marks ++ w ∷ []) h
+counted_in (AfterAt node.Member false) s t Bang h b = h
+counted_in (AfterAt node.Member true) s t Bang h b = tt
+counted_in (AfterAt node.Method off) s t (Id w) h b = marked (t.marks ++ w ∷ []) h
+counted_in (AfterAt node.Method false) s t Bang h b = h
+counted_in (AfterAt node.Method true) s t Bang h b = tt
+counted_in (AfterAt (node.Param o) off) s t (Id w) h b = marked (t.marks ++ w ∷ []) h
+counted_in (AfterAt (node.Param o) false) s t Bang h b = h
+counted_in (AfterAt (node.Param o) true) s t Bang h b = tt
+counted_in (AfterAt node.Send off) s t (Id w) h b = marked (t.marks ++ w ∷ []) h
+counted_in (AfterAt node.Send false) s t Bang h b = h
+counted_in (AfterAt node.Send true) s t Bang h b = tt
+counted_in (AfterAt node.Assign off) s t (Id w) h b = marked (t.marks ++ w ∷ []) h
+counted_in (AfterAt node.Assign false) s t Bang h b = h
+counted_in (AfterAt node.Assign true) s t Bang h b = tt
 counted_in (AfterMark node.Class) s t At h b = h
 counted_in (AfterMark node.Class) s t ClassWord h b = h
 counted_in (AfterMark node.Member) s t At h b = h

@@ -16,6 +16,7 @@ use Rattle.fj_parser.specs.Accepting.{IsAccepted}
 use Rattle.fj_parser.specs.Counting.{Place, before_class, before_method, before_body, in_body, place_of, in_hand, IsEmptyAt, IsCounted, Counted}
 use Rattle.fj_parser.specs.Goals.{start_for, begins_member, ends, class_or_end, field_or_end, method_or_end, member_or_end, step_for, reader_for}
 use Rattle.cfj_model.specs.Languages.{with_features}
+use Rattle.cfj_model.specs.declared.feature_model.Format.{Format}
 use Rattle.fj_machine.specs.Machine.{State, emitted, step_in, token_role}
 use Rattle.fj_parser.specs.declared.goal.Goal.{Goal}
 use Rattle.fj_parser.specs.declared.goal.Goal.TheVariants as goal
@@ -104,14 +105,14 @@ counted_for g m s t token h b = counted_in m s t token h b
 
 -- ---- what others cite
 
-pub counts_on : (g : Goal) (features : List (List ℕ)) (class : List ℕ) (s n : State) (t u : Tally) (token : Token) → Counted s t → IsAccepted (reader_for g features class) s t token n u → Counted n u
-counts_on g features class s n t u token h a =
+pub counts_on : (g : Goal) (format : Format) (features : List (List ℕ)) (class : List ℕ) (s n : State) (t u : Tally) (token : Token) → Counted s t → IsAccepted (reader_for g format features class) s t token n u → Counted n u
+counts_on g format features class s n t u token h a =
     let P : Option State → Type 0 = λ o. IfSome o (λ x. Counted x (tallied t (emitted s token))) in
     subst (λ x. Counted n x) (sym a.counts) (subst P a.goes (counted_for g s.mode s t token h a.within))
 
 -- nothing is in hand but features
-features_counted : (place : Place) (k : ℕ) (features : List (List ℕ)) → k ≤ length features → length features ≤ most_features → IsCounted place (record { features = k; params = 0; sends = 0; assigns = 0; slots = 0 }) (with_features features)
-features_counted place k features le few =
+features_counted : (place : Place) (k : ℕ) (format : Format) (features : List (List ℕ)) → k ≤ length features → length features ≤ most_features → IsCounted place (record { features = k; params = 0; sends = 0; assigns = 0; slots = 0 }) (with_features format features)
+features_counted place k format features le few =
     record { empty = none place; features = le; params = omega arith; sends = omega arith; assigns = omega arith; slots = omega arith; few_features = few; few_params = omega arith; few_param_names = omega arith; few_sends = omega arith; few_assigns = omega arith; few_nodes = omega arith }
   where
     none : (p : Place) → IsEmptyAt p (record { features = k; params = 0; sends = 0; assigns = 0; slots = 0 })
@@ -120,17 +121,17 @@ features_counted place k features le few =
     none before_body = refl
     none in_body = tt
 
-starts_counted : (g : Goal) (features : List (List ℕ)) (class : List ℕ) → length features ≤ most_features → Counted (start_for g features class) (with_features features)
-starts_counted goal.Project features class few = features_counted before_class 0 features (omega arith) few
-starts_counted goal.Model features class few = features_counted before_class 0 features (omega arith) few
-starts_counted goal.Class features class few = features_counted before_class (length features) features (omega arith) few
-starts_counted goal.Constructor features class few = features_counted before_body (length features) features (omega arith) few
-starts_counted goal.Field features class few = features_counted before_body (length features) features (omega arith) few
-starts_counted goal.Method features class few = features_counted before_method (length features) features (omega arith) few
-starts_counted goal.Member features class few = features_counted before_method (length features) features (omega arith) few
-starts_counted goal.Name features class few = features_counted before_body (length features) features (omega arith) few
-starts_counted goal.Expression features class few = features_counted in_body (length features) features (omega arith) few
+starts_counted : (g : Goal) (format : Format) (features : List (List ℕ)) (class : List ℕ) → length features ≤ most_features → Counted (start_for g format features class) (with_features format features)
+starts_counted goal.Project format features class few = features_counted before_class 0 format features (omega arith) few
+starts_counted goal.Model format features class few = features_counted before_class 0 format features (omega arith) few
+starts_counted goal.Class format features class few = features_counted before_class (length features) format features (omega arith) few
+starts_counted goal.Constructor format features class few = features_counted before_body (length features) format features (omega arith) few
+starts_counted goal.Field format features class few = features_counted before_body (length features) format features (omega arith) few
+starts_counted goal.Method format features class few = features_counted before_method (length features) format features (omega arith) few
+starts_counted goal.Member format features class few = features_counted before_method (length features) format features (omega arith) few
+starts_counted goal.Name format features class few = features_counted before_body (length features) format features (omega arith) few
+starts_counted goal.Expression format features class few = features_counted in_body (length features) format features (omega arith) few
 
-pub first_counted : (g : Goal) (features : List (List ℕ)) (class : List ℕ) (s : State) (t : Tally) → nat_le (length features) most_features ≡ true → s ≡ start_for g features class → t ≡ with_features features → Counted s t
-first_counted g features class s t few is counts =
-    subst (λ n. Counted n t) (sym is) (subst (λ u. Counted (start_for g features class) u) (sym counts) (starts_counted g features class (leb-true _ _ few)))
+pub first_counted : (g : Goal) (format : Format) (features : List (List ℕ)) (class : List ℕ) (s : State) (t : Tally) → nat_le (length features) most_features ≡ true → s ≡ start_for g format features class → t ≡ with_features format features → Counted s t
+first_counted g format features class s t few is counts =
+    subst (λ n. Counted n t) (sym is) (subst (λ u. Counted (start_for g format features class) u) (sym counts) (starts_counted g format features class (leb-true _ _ few)))

@@ -1,19 +1,24 @@
 -- An expression without marks stands for the same over any features, and is a body that a project of any features keeps.
-use Rattle.std.proofs.Common.{◌≡◌, ℕ, ◌+◌, true, List, [], ◌∷◌, ◌++◌, length, replicate, refl, ap, subst, ◌∙◌, arith}
+use Rattle.std.proofs.Common.{◌≡◌, ℕ, ◌+◌, true, List, [], ◌∷◌, ◌++◌, length, replicate, refl, sym, ap, subst, ◌∙◌, arith}
 use Rattle.std.proofs.lemmas.List.{length-replicate}
 use Rattle.cfj_model.specs.declared.expr.Arg.{Arg}
 use Rattle.cfj_model.specs.declared.expr.Expr.{Expr}
 use Rattle.cfj_model.specs.declared.expr.Expr.TheVariants as e
 use Rattle.cfj_model.specs.ExpressionGrammar.{ExprTree, cast, chain, StartTree, variable, this_word, made, bracket, StepsTree, stop, get, call, ArgsTree, no_args, first_arg, MoreArgsTree, no_more, next_arg, Numbered, spell_expr, roles_expr, value_expr, value_start, value_steps, value_args, value_more_args}
+use Rattle.cfj_model.specs.Coloring.{Palette, no_colors}
+use Rattle.cfj_model.specs.declared.feature_model.Format.{Format}
+use Rattle.cfj_model.specs.declared.feature_model.Format.TheVariants.{One, Two}
+use Rattle.cfj_model.proofs.FormatTwo.{body_still}
 use Rattle.cfj_model.specs.ProductLines.{is_body}
 use Rattle.cfj_model.specs.Roles.{nothing, AreWithin}
 use Rattle.fj_symbols.specs.Views.{are_read}
 use Rattle.expression_reader.proofs.Kept.{body_kept}
+use Rattle.expression_reader.proofs.KnownColors.{palette_over}
 use Rattle.cfj_model.specs.PartLanguages.{IsUnmarked, IsStartUnmarked, AreStepsUnmarked, AreUnmarked, AreMoreUnmarked}
 
 -- an argument without marks
 abbrev plain_arg : Expr → Arg
-plain_arg x = record { colors = 0; expr = x }
+plain_arg x = record { colors = no_colors; expr = x }
 
 module _ (features : List (List ℕ)) where
   mutual
@@ -51,9 +56,20 @@ module _ (features : List (List ℕ)) where
     more_same n done (next_arg (w ∷ ws) t ts) u = absurd u
 
   -- over these features it is a body that is kept
-  body_over : (x : ExprTree) → IsUnmarked x → AreWithin nothing (roles_expr 0 x []) → are_read (spell_expr x []) ≡ true → is_body (length features) (value_expr [] 0 x).0 ≡ true
-  body_over x u w r = subst (λ (v : Numbered Expr). is_body (length features) v.0 ≡ true) (expr_same 0 x u) (body_kept features nothing x [] [] refl (omega arith) w r).is
+  body_over : (x : ExprTree) → IsUnmarked x → AreWithin nothing (roles_expr 0 x []) → are_read (spell_expr x []) ≡ true → is_body (palette_over One features) (value_expr [] 0 x).0 ≡ true
+  body_over x u w r = subst (λ (v : Numbered Expr). is_body (palette_over One features) v.0 ≡ true) (expr_same 0 x u) (body_kept features nothing x [] [] refl (omega arith) w r).is
 
--- and over as many as there may be
-pub kept_expression : (x : ExprTree) → IsUnmarked x → AreWithin nothing (roles_expr 0 x []) → are_read (spell_expr x []) ≡ true → (features : ℕ) → is_body features (value_expr [] 0 x).0 ≡ true
-kept_expression x u w r n = subst (λ m. is_body m (value_expr [] 0 x).0 ≡ true) (length-replicate n []) (body_over (replicate n []) x u w r)
+-- and over as many as there may be, in either format
+pub kept_expression : (x : ExprTree) → IsUnmarked x → AreWithin nothing (roles_expr 0 x []) → are_read (spell_expr x []) ≡ true → (p : Palette) → is_body p (value_expr [] 0 x).0 ≡ true
+kept_expression x u w r p = by p.format refl
+  where
+    over : is_body (record { features = p.features; format = One }) (value_expr [] 0 x).0 ≡ true
+    over =
+        subst (λ m. is_body (record { features = m; format = One }) (value_expr [] 0 x).0 ≡ true) (length-replicate p.features [])
+        (body_over (replicate p.features []) x u w r)
+
+    by : (f : Format) → p.format ≡ f → is_body p (value_expr [] 0 x).0 ≡ true
+    by One e = subst (λ f. is_body (record { features = p.features; format = f }) (value_expr [] 0 x).0 ≡ true) (sym e) over
+    by Two e =
+        subst (λ f. is_body (record { features = p.features; format = f }) (value_expr [] 0 x).0 ≡ true) (sym e)
+        (body_still (record { features = p.features; format = One }) (value_expr [] 0 x).0 over)

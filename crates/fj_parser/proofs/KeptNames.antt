@@ -1,10 +1,6 @@
--- What the role of one token says where it breaks nothing, of names, of marks and of colours.
-use Rattle.std.proofs.Common.{◌≡◌, ℕ, ◌^◌, ◌<◌, Bool, true, false, List, [], ◌∷◌, ◌++◌, length, refl, sym, subst, Some, None, nat_le, bytes_eq}
-use Rattle.std.specs.Prelude.{nat_lt, bit_or}
-use Rattle.std.specs.List.{position_or_len}
-use Rattle.std.proofs.Math.Pow.{pow-lt, pow_pos}
-use Rattle.std.proofs.lemmas.Nat.{or_lt}
-use Rattle.std.proofs.lemmas.Bool.{and_parts, and_from, ltb-true, ltb-false, lt-ltb, leb-false, le-leb, cond_both}
+-- What the role of one token says where it breaks nothing, of names.
+use Rattle.std.proofs.Common.{◌≡◌, ℕ, ◌<◌, Bool, true, false, List, [], ◌∷◌, length, refl, sym, subst, Some, None, nat_le}
+use Rattle.std.proofs.lemmas.Bool.{and_from, ltb-false, leb-false, le-leb}
 use Rattle.std.proofs.lemmas.Option.{none-some}
 use Rattle.cfj_model.specs.declared.fault.FaultKind.{FaultKind}
 use Rattle.cfj_model.specs.declared.fault.FaultKind.TheVariants.{Limit}
@@ -12,8 +8,7 @@ use Rattle.cfj_model.specs.declared.fault.LimitKind.TheVariants as limit
 use Rattle.cfj_words.specs.Names.{is_among, is_identifier, is_short_identifier}
 use Rattle.cfj_words.specs.Tokens.{Token, Comma}
 use Rattle.cfj_model.specs.ProductLines.{most_size}
-use Rattle.cfj_model.specs.Coloring.{are_known}
-use Rattle.cfj_model.specs.Marks.{each_behind, separated, spell_marks, roles_marks, color_at, color_of, colored, colors_of}
+use Rattle.cfj_model.specs.Marks.{each_behind, separated}
 use Rattle.cfj_model.specs.Roles.{Role, used_name, other_token, Tally, first_of, is_long, broken_by, AreWithin}
 use Rattle.fj_symbols.specs.Views.{are_read}
 
@@ -72,36 +67,3 @@ separated_read f (x ∷ xs) more r = r
 -- The size may be written in another way.
 pub sized : (t : Tally) (m n : ℕ) (rest : List Role) → m ≡ n → AreWithin (record t { size = m }) rest → AreWithin (record t { size = n }) rest
 sized t m n rest e w = subst (λ x. AreWithin (record t { size = x }) rest) e w
-
--- ---- colours
-
--- a mark's colour is a feature's, or none
-pub color_below : (features : List (List ℕ)) (m : List ℕ) → color_of features m < 2 ^ length features
-color_below features m =
-    cond_both (nat_lt (position_or_len (λ f. bytes_eq f m) features) (length features)) (Some (position_or_len (λ f. bytes_eq f m) features)) None (λ o. color_at o < 2 ^ length features)
-    (λ e. let below : position_or_len (λ f. bytes_eq f m) features < length features = ltb-true (position_or_len (λ f. bytes_eq f m) features) (length features) e in pow-lt below)
-    (λ e. pow_pos (length features))
-
--- More marks keep a set's colours among the features.
-pub colored_below : (features : List (List ℕ)) (colors : ℕ) (ms : List (List ℕ)) → colors < 2 ^ length features → colored features colors ms < 2 ^ length features
-colored_below features colors [] h = h
-colored_below features colors (m ∷ ms) h = colored_below features (bit_or colors (color_of features m)) ms (or_lt (length features) colors (color_of features m) h (color_below features m))
-
--- the colours of a node are features
-pub known : (features ms : List (List ℕ)) → are_known (length features) (colors_of features ms) ≡ true
-known features ms = lt-ltb (colors_of features ms) (2 ^ length features) (colored_below features 0 ms (pow_pos (length features)))
-
--- ---- marks
-
--- what is known behind the marks of a node
-pub record MarksKept (t : Tally) (rest : List Role) (more : List Token) : Type 0 where
-  pub marks : List (List ℕ)
-  pub within : AreWithin (record t { marks = marks }) rest
-  pub read : are_read more ≡ true
-
-pub marks_kept : (t : Tally) (ms : List (List ℕ)) (rest : List Role) (more : List Token) → AreWithin t (roles_marks ms rest) → are_read (spell_marks ms more) ≡ true → MarksKept t rest more
-marks_kept t [] rest more w r = record { marks = t.marks; within = w; read = r }
-marks_kept t (m ∷ ms) rest more (at, (name, w)) r =
-    let u : Tally = record t { marks = t.marks ++ m ∷ [] } in
-    let k : MarksKept u rest more = marks_kept u ms rest more w (and_parts (is_identifier m) (are_read (spell_marks ms more)) r).1 in
-    record { marks = k.marks; within = k.within; read = k.read }

@@ -12,6 +12,7 @@ use Rattle.cfj_words.specs.Names.{is_among, is_identifier, is_name, is_short_ide
 use Rattle.cfj_model.specs.ProductLines.{are_new, are_distinct, most_features}
 use Rattle.cfj_model.specs.Roles.{feature_name, broken_by, is_long, first_of}
 use Rattle.cfj_model.specs.Languages.{with_features}
+use Rattle.cfj_model.specs.declared.feature_model.Format.{Format}
 
 -- of names of which each is new, one isn't among those before it
 new_at : (before ns : List (List ℕ)) (i : ℕ) (w : List ℕ) → are_new before ns ≡ true → slice_get ns i ≡ Some w → is_among (before ++ take i ns) w ≡ false
@@ -41,8 +42,8 @@ no_test a true c j k l p q r = absurd (true≢false q)
 no_test a b true j k l p q r = absurd (true≢false r)
 
 -- each of distinct features stands as one of a feature line does
-pub feature_fits : (names : List (List ℕ)) (i : ℕ) (w : List ℕ) → nat_le (length names) most_features ≡ true → are_distinct names ≡ true → is_name w ≡ true → slice_get names i ≡ Some w → broken_by (with_features (take i names)) (feature_name w) ≡ None
-feature_fits names i w few distinct named there =
+pub feature_fits : (format : Format) (names : List (List ℕ)) (i : ℕ) (w : List ℕ) → nat_le (length names) most_features ≡ true → are_distinct names ≡ true → is_name w ≡ true → slice_get names i ≡ Some w → broken_by (with_features format (take i names)) (feature_name w) ≡ None
+feature_fits format names i w few distinct named there =
     let within : i < length names = slice_get_within names i w there in
     let most : length names ≤ most_features = leb-true _ _ few in
     let long : length (take i names) ≡ i = length-take-le i names (omega arith) in

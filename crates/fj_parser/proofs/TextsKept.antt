@@ -7,6 +7,9 @@ use Rattle.cfj_model.specs.declared.class.Constructor.{Constructor}
 use Rattle.cfj_model.specs.declared.expr.Expr.{Expr}
 use Rattle.cfj_model.specs.declared.feature_model.FeatureModel.{FeatureModel}
 use Rattle.cfj_model.specs.declared.member.Member.{Member}
+use Rattle.cfj_model.specs.Coloring.{Palette}
+use Rattle.cfj_model.specs.declared.feature_model.Format.{Format}
+use Rattle.expression_reader.proofs.KnownColors.{palette_over}
 use Rattle.cfj_model.specs.Expressions.{slots}
 use Rattle.cfj_model.specs.Languages.{Language, IsTextOf, projects, single_classes}
 use Rattle.cfj_model.specs.Grammar.{spell, spell_class}
@@ -32,10 +35,10 @@ text_kept text line h =
     subst IsProject (sym h.valued) (kept h.tree h.within (takes_read (chars text) (spell h.tree []) h.rest (scalars_of text h.utf8) h.spelled))
 
 -- And so does the text of a class by itself: one that a project keeps, and that fits.
-pub class_text_kept : (features : List (List ℕ)) (text : List ℕ) (k : Class) → IsTextOf (single_classes features) text k → (is_class (length features) k ≡ true) × (nat_le (class_size k) most_size ≡ true)
-class_text_kept features text k h =
-    subst (λ c. (is_class (length features) c ≡ true) × (nat_le (class_size c) most_size ≡ true)) (sym h.valued)
-    (kept_class features h.tree h.within (takes_read (chars text) (spell_class h.tree []) h.rest (scalars_of text h.utf8) h.spelled))
+pub class_text_kept : (format : Format) (features : List (List ℕ)) (text : List ℕ) (k : Class) → IsTextOf (single_classes format features) text k → (is_class (palette_over format features) k ≡ true) × (nat_le (class_size k) most_size ≡ true)
+class_text_kept format features text k h =
+    subst (λ c. (is_class (palette_over format features) c ≡ true) × (nat_le (class_size c) most_size ≡ true)) (sym h.valued)
+    (kept_class format features h.tree h.within (takes_read (chars text) (spell_class h.tree []) h.rest (scalars_of text h.utf8) h.spelled))
 
 -- ---- parts
 
@@ -49,35 +52,35 @@ model_text_kept text m h = subst IsModel (sym h.valued) (kept_model h.tree h.wit
 pub name_text_kept : (text w : List ℕ) → IsTextOf names text w → is_short_identifier w ≡ true
 name_text_kept text w h = subst (λ x. is_short_identifier x ≡ true) (sym h.valued) (used_short h.tree nothing (and_parts (is_identifier h.tree) true (tokens_read names text w h)).0 h.within.0)
 
-pub ctor_text_kept : (features : List (List ℕ)) (class text : List ℕ) (c : Constructor) → IsTextOf (constructors features class) text c → is_ctor (length features) c ≡ true
-ctor_text_kept features class text c h =
-    subst (λ x. is_ctor (length features) x ≡ true) (sym h.valued) (kept_ctor features class h.tree h.within (tokens_read (constructors features class) text c h))
+pub ctor_text_kept : (format : Format) (features : List (List ℕ)) (class text : List ℕ) (c : Constructor) → IsTextOf (constructors format features class) text c → is_ctor (palette_over format features) c ≡ true
+ctor_text_kept format features class text c h =
+    subst (λ x. is_ctor (palette_over format features) x ≡ true) (sym h.valued) (kept_ctor format features class h.tree h.within (tokens_read (constructors format features class) text c h))
 
-pub member_text_kept : (want : Want) (features : List (List ℕ)) (text : List ℕ) (m : Member) → IsTextOf (members_wanted want features) text m → is_member (length features) m ≡ true
-member_text_kept Any features text m h =
-    subst (λ x. is_member (length features) x ≡ true) (sym h.valued) (kept_member features h.tree h.within (tokens_read (members_wanted Any features) text m h))
-member_text_kept Field features text m h =
-    subst (λ x. is_member (length features) x ≡ true) (sym h.valued) (kept_field features h.tree h.within (tokens_read (members_wanted Field features) text m h))
-member_text_kept Method features text m h =
-    subst (λ x. is_member (length features) x ≡ true) (sym h.valued) (kept_method features h.tree h.within (tokens_read (members_wanted Method features) text m h))
+pub member_text_kept : (want : Want) (format : Format) (features : List (List ℕ)) (text : List ℕ) (m : Member) → IsTextOf (members_wanted want format features) text m → is_member (palette_over format features) m ≡ true
+member_text_kept Any format features text m h =
+    subst (λ x. is_member (palette_over format features) x ≡ true) (sym h.valued) (kept_member format features h.tree h.within (tokens_read (members_wanted Any format features) text m h))
+member_text_kept Field format features text m h =
+    subst (λ x. is_member (palette_over format features) x ≡ true) (sym h.valued) (kept_field format features h.tree h.within (tokens_read (members_wanted Field format features) text m h))
+member_text_kept Method format features text m h =
+    subst (λ x. is_member (palette_over format features) x ≡ true) (sym h.valued) (kept_method format features h.tree h.within (tokens_read (members_wanted Method format features) text m h))
 
-pub expression_text_kept : (text : List ℕ) (x : Expr) → IsTextOf expressions text x → (features : ℕ) → is_body features x ≡ true
-expression_text_kept text x h features =
-    subst (λ y. is_body features y ≡ true) (sym h.valued) (kept_expression h.tree.tree h.tree.unmarked h.within (tokens_read expressions text x h) features)
+pub expression_text_kept : (text : List ℕ) (x : Expr) → IsTextOf expressions text x → (p : Palette) → is_body p x ≡ true
+expression_text_kept text x h p =
+    subst (λ y. is_body p y ≡ true) (sym h.valued) (kept_expression h.tree.tree h.tree.unmarked h.within (tokens_read expressions text x h) p)
 
 -- ---- and it is numbered
 
-pub ctor_text_numbered : (features : List (List ℕ)) (class text : List ℕ) (c : Constructor) → IsTextOf (constructors features class) text c → is_numbered_ctor c ≡ true
-ctor_text_numbered features class text c h = subst (λ x. is_numbered_ctor x ≡ true) (sym h.valued) (ctor_numbered features (in_class class h.tree))
+pub ctor_text_numbered : (format : Format) (features : List (List ℕ)) (class text : List ℕ) (c : Constructor) → IsTextOf (constructors format features class) text c → is_numbered_ctor c ≡ true
+ctor_text_numbered format features class text c h = subst (λ x. is_numbered_ctor x ≡ true) (sym h.valued) (ctor_numbered features (in_class class h.tree))
 
 member_numbered : (features : List (List ℕ)) (x : MemberTree) → is_numbered_member (value_member features x) ≡ true
 member_numbered features (a_field d) = refl
 member_numbered features (a_method m) = method_numbered features m
 
-pub member_text_numbered : (want : Want) (features : List (List ℕ)) (text : List ℕ) (m : Member) → IsTextOf (members_wanted want features) text m → is_numbered_member m ≡ true
-member_text_numbered Any features text m h = subst (λ x. is_numbered_member x ≡ true) (sym h.valued) (member_numbered features h.tree)
-member_text_numbered Field features text m h = subst (λ x. is_numbered_member x ≡ true) (sym h.valued) (member_numbered features (a_field h.tree))
-member_text_numbered Method features text m h = subst (λ x. is_numbered_member x ≡ true) (sym h.valued) (member_numbered features (a_method h.tree))
+pub member_text_numbered : (want : Want) (format : Format) (features : List (List ℕ)) (text : List ℕ) (m : Member) → IsTextOf (members_wanted want format features) text m → is_numbered_member m ≡ true
+member_text_numbered Any format features text m h = subst (λ x. is_numbered_member x ≡ true) (sym h.valued) (member_numbered features h.tree)
+member_text_numbered Field format features text m h = subst (λ x. is_numbered_member x ≡ true) (sym h.valued) (member_numbered features (a_field h.tree))
+member_text_numbered Method format features text m h = subst (λ x. is_numbered_member x ≡ true) (sym h.valued) (member_numbered features (a_method h.tree))
 
 pub expression_text_numbered : (text : List ℕ) (x : Expr) → IsTextOf expressions text x → run_from 0 (slots x) ≡ true
 expression_text_numbered text x h = subst (λ y. run_from 0 (slots y) ≡ true) (sym h.valued) (body_numbered [] h.tree.tree)

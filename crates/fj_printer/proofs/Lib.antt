@@ -4,3 +4,4 @@ pub mod FormulaTexts
 pub mod Lists
 pub mod MarkTexts
 pub mod Parts
+pub mod Presences

@@ -3,10 +3,11 @@ use Rattle.std.proofs.Common.{◌≡◌, sym, ap, ◌∙◌, ℕ, ◌+◌, ◌<�
 use Rattle.std.specs.List.{enumerate_from}
 use Rattle.std.proofs.lemmas.List.{take_all}
 use Rattle.std.proofs.lemmas.List.FromFn.{length-enumerate_from, get_or-enumerate_from}
+use Rattle.cfj_logic.specs.Sides.{Sides}
 use Rattle.cfj_model.specs.Print.{texts, mark_text, marks_text}
 use Rattle.fj_printer.proofs.Lists.{texts_more, texts_there}
 
-module _ (features : List (List ℕ)) (colors : ℕ) where
+module _ (features : List (List ℕ)) (colors : Sides) where
   -- the marks of the first features
   abbrev pub marks_to : ℕ → List ℕ
   marks_to n = texts (mark_text colors) (take n (enumerate_from 0 features))

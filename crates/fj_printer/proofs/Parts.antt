@@ -10,6 +10,7 @@ use Rattle.cfj_model.specs.declared.class.Constructor.{Constructor}
 use Rattle.cfj_model.specs.declared.class.Method.{Method}
 use Rattle.cfj_model.specs.Print.{line_end, texts, joined, field_text, param_text, sent_text, assign_text, ctor_text, expr_text, method_text, class_text, name_text, features_text, plain_printed}
 use Rattle.cfj_model.specs.ProductLines.{ProductLine}
+use Rattle.cfj_model.specs.Coloring.{no_colors}
 use Rattle.cfj_model.specs.Projection.{is_present, bare_field, bare_param, bare_sent, projected, projected_class}
 use Rattle.cfj_logic.specs.Selections.{Chosen}
 use Rattle.feature_views.specs.Selected.{selected_nodes, selected_method}
@@ -59,7 +60,7 @@ abbrev selected_class : Bor Chosen → Class → Class
 selected_class selection k =
     record {
       name = k.name;
-      colors = 0;
+      colors = no_colors;
       parent = k.parent;
       fields = selected_nodes (λ (f : Field). f.colors) bare_field selection.now k.fields;
       ctor = shown_ctor (showing.Selected selection) k.ctor;

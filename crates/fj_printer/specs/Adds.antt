@@ -1,4 +1,3 @@
--- No public contract cites this: it serves the proofs.
 -- What each function of the printer does to a sink and to the bytes that wait in front of it.
 use Rattle.std.specs.Prelude.{◌≡◌, ℕ, List, ◌++◌, Result, Ok, Err}
 use Rattle.cide_io.specs.Faults.{HasCause}

@@ -1,6 +1,5 @@
--- No public contract cites this: it serves the proofs.
 -- Parts of the printed form.
-use Rattle.std.specs.Prelude.{ℕ, List, ◌++◌, codes}
+use Rattle.std.specs.Prelude.{ℕ, Bool, true, false, List, ◌++◌, codes}
 use Rattle.cfj_model.specs.declared.class.Class.{Class}
 use Rattle.cfj_model.specs.declared.class.Method.{Method}
 use Rattle.cfj_model.specs.declared.expr.Arg.{Arg}
@@ -8,7 +7,18 @@ use Rattle.cfj_model.specs.declared.expr.Expr.{Expr}
 use Rattle.cfj_model.specs.declared.expr.Expr.TheFolds.{fold-Expr}
 use Rattle.cfj_logic.specs.declared.formula.Formula.{Formula}
 use Rattle.cfj_logic.specs.declared.formula.Formula.TheFolds.{fold-Formula}
-use Rattle.cfj_model.specs.Print.{line_end, marks_text, Shown, shown_step, shown_arg, expr_text, ShownFormula, shown_formula_step}
+use Rattle.cfj_model.specs.ProductLines.{ProductLine}
+use Rattle.cfj_model.specs.declared.feature_model.Format.{Format}
+use Rattle.cfj_model.specs.Print.{line_end, marks_text, Shown, shown_step, shown_arg, expr_text, ShownFormula, shown_formula_step, spaced_behind, spaced}
+
+-- texts joined by spaces, behind one more space where something has begun
+abbrev pub spaced_on : Bool → List (List ℕ) → List ℕ
+spaced_on true xs = spaced_behind xs
+spaced_on false xs = spaced xs
+
+-- a product line as one of this format
+abbrev pub in_format : Format → ProductLine → ProductLine
+in_format format line = record line { model = record line.model { format = format } }
 
 -- `class C extends D {`
 abbrev pub class_head_text : List (List ℕ) → Class → List ℕ

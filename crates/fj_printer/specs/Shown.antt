@@ -1,6 +1,6 @@
 -- No public contract cites this: it serves the proofs.
 -- What is printed of a project's nodes: all of them with their marks, or those that are present under a selection, without marks.
--- Where all that stands round a node is present, the node is present exactly where its own colours are all selected.
+-- Where all that stands round a node is present, the node is present exactly where its own marks all hold.
 use Rattle.std.specs.Prelude.{ℕ, Bool, true, List, [], ◌++◌, filter}
 use Rattle.cfj_model.specs.declared.class.Field.{Field}
 use Rattle.cfj_model.specs.declared.class.Param.{Param}
@@ -11,6 +11,7 @@ use Rattle.cfj_model.specs.declared.class.Class.{Class}
 use Rattle.cfj_model.specs.declared.expr.Arg.{Arg}
 use Rattle.cfj_model.specs.declared.expr.Expr.{Expr}
 use Rattle.cfj_model.specs.Print.{marks_text, expr_text, method_text, class_text}
+use Rattle.cfj_logic.specs.Sides.{Sides}
 use Rattle.cfj_model.specs.Projection.{is_present, bare_param, bare_sent, projected_class}
 use Rattle.feature_views.specs.Selected.{selected_nodes, selected_expr, selected_method}
 use Rattle.fj_printer.specs.declared.showing.Showing.{Showing}
@@ -22,7 +23,7 @@ names (showing.Marked features) = features.now
 names (showing.Selected selection) = []
 
 -- whether a node of these colours is printed where all that stands round it is
-abbrev pub shows : Showing → ℕ → Bool
+abbrev pub shows : Showing → Sides → Bool
 shows (showing.Marked features) colors = true
 shows (showing.Selected selection) colors = is_present selection.now colors
 

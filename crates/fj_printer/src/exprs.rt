@@ -10,8 +10,26 @@ use crate::buffer::Buffer;
 use crate::marks::marks;
 use crate::pieces::{add_all, add_text};
 use crate::showing::Showing;
-use cfj_model::{Arg, Expr};
+use cfj_model::{Arg, Expr, Name};
 use cide_io::{Failed, Sink};
+
+/// Adds an expression, with the marks that its arguments have of these features.
+///
+/// # Errors
+///
+/// The sink failed.
+pub fn add_expr<K: Sink>(
+    buffer: &mut Buffer,
+    sink: &mut K,
+    features: &[Name],
+    item: &Expr,
+) -> Result<(), Failed>
+    requires { length features.now ≤ 128 }
+    ensures { Adds K.held K.name K.faults sink.old buffer.old sink.new buffer.new (expr_text features.now item.now) result }
+{
+    let showing = Showing::Marked(features);
+    expr(buffer, sink, &showing, item)
+}
 
 /// Adds an expression.
 #[cycle(print)]

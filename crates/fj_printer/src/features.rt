@@ -1,13 +1,23 @@
-//! The feature line.
+//! The line for format two, and the feature line.
 
 ghost use Rattle.std.specs.Prelude.{◌++◌};
-ghost use Rattle.cfj_model.specs.Print.{joined, name_text, features_text};
+ghost use Rattle.cfj_model.specs.Print.{joined, name_text, format_text, features_text};
 ghost use Rattle.fj_printer.specs.Adds.{Adds};
 
 use crate::buffer::Buffer;
-use crate::pieces::add_all;
-use cfj_model::Name;
+use crate::pieces::{add_all, add_text};
+use cfj_model::{Format, Name};
 use cide_io::{Failed, Sink};
+
+/// Adds the line for format two, where it is that.
+pub fn format_line<K: Sink>(buffer: &mut Buffer, sink: &mut K, format: Format) -> Result<(), Failed>
+    ensures { Adds K.held K.name K.faults sink.old buffer.old sink.new buffer.new (format_text format) result }
+{
+    match format {
+        Format::One => Ok(()),
+        Format::Two => add_text(buffer, sink, "format2;\n"),
+    }
+}
 
 /// Adds the feature line, where there are features.
 pub fn feature_line<K: Sink>(

@@ -7,6 +7,10 @@
 //! holds a proper prefix of it. Pieces are gathered in a buffer of a fixed size, so that a stream is given few and large ones.
 //! No memory is taken.
 //!
+//! Whoever prints another form with names, expressions and presences in it puts its own pieces into a [`Buffer`] by [`add_text`],
+//! [`add_all`], [`add_expr`] and [`add_presence`], and ends with [`flush`]. Contracts tell by `Adds` (`specs/Adds.antt`) what a call
+//! did to the sink and to the bytes that wait in front of it, and the lemmas of `proofs/Composing.antt` put calls together.
+//!
 //! [`Sink`]: cide_io::Sink
 #![tactic(auto)]
 
@@ -19,7 +23,12 @@ mod formulas;
 mod marks;
 mod methods;
 mod pieces;
+mod presence;
 mod project;
 mod showing;
 
-pub use project::{print_class, print_plain, print_project, print_variant};
+pub use buffer::Buffer;
+pub use exprs::add_expr;
+pub use pieces::{add_all, add_text, flush};
+pub use presence::add_presence;
+pub use project::{print_class, print_migrated, print_plain, print_project, print_variant};

@@ -45,7 +45,7 @@ pub fn marks<K: Sink>(
     Ok(())
 }
 
-// Adds the mark of one feature where it is among the colours.
+// Adds the mark of one feature where it is among the colours, as one that is wanted or as one that isn't.
 fn mark<K: Sink>(
     buffer: &mut Buffer,
     sink: &mut K,
@@ -56,8 +56,10 @@ fn mark<K: Sink>(
     requires { number < 128 }
     ensures { Adds K.held K.name K.faults sink.old buffer.old sink.new buffer.new (mark_text colors (number, feature.now)) result }
 {
-    if colors.has(number) {
+    if colors.has(number, false) {
         add_all(buffer, sink, &["@", feature.text(), " "])
+    } else if colors.has(number, true) {
+        add_all(buffer, sink, &["@!", feature.text(), " "])
     } else {
         Ok(())
     }

@@ -8,6 +8,10 @@ use crate::buffer::{Buffer, ROOM};
 use cide_io::{Failed, Sink};
 
 /// Puts all that waits into the sink.
+///
+/// # Errors
+///
+/// The sink failed: it holds a proper prefix of what waited behind what it held.
 pub fn flush<K: Sink>(buffer: &mut Buffer, sink: &mut K) -> Result<(), Failed>
     ensures adds { Adds K.held K.name K.faults sink.old buffer.old sink.new buffer.new [] result }
     ensures empty { OnOk result (buffer.new ≡ []) }
@@ -45,7 +49,11 @@ fn add<K: Sink>(buffer: &mut Buffer, sink: &mut K, text: &[u8]) -> Result<(), Fa
     Ok(())
 }
 
-/// Adds a text.
+/// Adds a text. It goes behind the bytes that wait, and what doesn't fit there goes on once these are put into the sink.
+///
+/// # Errors
+///
+/// The sink failed.
 pub fn add_text<K: Sink>(buffer: &mut Buffer, sink: &mut K, text: &str) -> Result<(), Failed>
     ensures { Adds K.held K.name K.faults sink.old buffer.old sink.new buffer.new text.now result }
 {
@@ -53,6 +61,10 @@ pub fn add_text<K: Sink>(buffer: &mut Buffer, sink: &mut K, text: &str) -> Resul
 }
 
 /// Adds texts, one after another.
+///
+/// # Errors
+///
+/// The sink failed.
 pub fn add_all<K: Sink>(buffer: &mut Buffer, sink: &mut K, list: &[&str]) -> Result<(), Failed>
     ensures { Adds K.held K.name K.faults sink.old buffer.old sink.new buffer.new (texts (λ text. text.now) list.now) result }
 {

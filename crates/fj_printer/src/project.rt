@@ -3,31 +3,51 @@
 ghost use Rattle.std.specs.Prelude.{◌≡◌, ◌≤◌, true, length};
 ghost use Rattle.cfj_model.specs.Coloring.{palette_of};
 ghost use Rattle.cfj_model.specs.Print.{texts, class_text, printed, plain_printed};
-ghost use Rattle.cfj_model.specs.ProductLines.{IsPlain, is_class};
+ghost use Rattle.cfj_model.specs.ProductLines.{IsPlain, in_format_two, is_class};
 ghost use Rattle.cfj_model.specs.Projection.{projected};
 ghost use Rattle.cide_io.specs.Changes.{Gains};
 ghost use Rattle.fj_printer.specs.Adds.{Adds};
+ghost use Rattle.fj_printer.specs.Parts.{in_format};
 ghost use Rattle.fj_printer.specs.Shown.{names, shown_class_text, shown_classes};
 
 use crate::buffer::Buffer;
 use crate::classes::class as add_class;
-use crate::features::feature_line;
+use crate::features::{feature_line, format_line};
 use crate::formulas::constraint_lines;
 use crate::pieces::flush;
 use crate::showing::Showing;
-use cfj_model::{Class, FeatureModel, Project, Selection};
+use cfj_model::{Class, FeatureModel, Format, Project, Selection};
 use cide_io::{Failed, Sink};
 
-/// Appends the printed form of a project to what a sink holds, in pieces of up to 4,096 bytes: the feature line, a line for
-/// each constraint, and the classes with their marks.
+/// Appends the printed form of a project to what a sink holds, in pieces of up to 4,096 bytes: the line for format two where the
+/// project is of that, the feature line, a line for each constraint, and the classes with their marks.
 ///
 /// After a failure the sink holds a proper prefix of that form behind what it held. No memory is taken.
 pub fn print_project<K: Sink>(project: &Project, sink: &mut K) -> Result<(), Failed>
     ensures { Gains K.Sink sink.old sink.new (printed project.now) result }
 {
+    let format = project.model().format;
+    print_in(project, format, sink)
+}
+
+/// Appends the printed form that a project has in format two, where its marks mean what they meant, to what a sink holds, in pieces
+/// of up to 4,096 bytes. The project in format two itself isn't made.
+///
+/// After a failure the sink holds a proper prefix of that form behind what it held. No memory is taken.
+pub fn print_migrated<K: Sink>(project: &Project, sink: &mut K) -> Result<(), Failed>
+    ensures { Gains K.Sink sink.old sink.new (printed (in_format_two project.now)) result }
+{
+    print_in(project, Format::Two, sink)
+}
+
+// Appends the printed form of a project as one of this format.
+fn print_in<K: Sink>(project: &Project, format: Format, sink: &mut K) -> Result<(), Failed>
+    ensures { Gains K.Sink sink.old sink.new (printed (in_format format project.now)) result }
+{
     let model = project.model();
     let features = model.features.slice();
     let mut buffer = Buffer::new();
+    format_line(&mut buffer, sink, format)?;
     feature_line(&mut buffer, sink, features)?;
     constraint_lines(&mut buffer, sink, features, model.constraints.slice())?;
     let showing = Showing::Marked(features);

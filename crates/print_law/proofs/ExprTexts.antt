@@ -1,5 +1,5 @@
 -- The text of an expression gives the tokens of its tree.
-use Rattle.std.proofs.Common.{◌≡◌, ℕ, Bool, true, false, ◌&&◌, ◌||◌, codes, if◌then◌else◌, List, [], ◌∷◌, ◌++◌, length, map, refl, sym, ap, subst, ◌∙◌, true≢false}
+use Rattle.std.proofs.Common.{◌≡◌, ℕ, Bool, true, false, ◌&&◌, ◌||◌, codes, if◌then◌else◌, List, [], ◌∷◌, ◌++◌, map, refl, sym, ap, subst, ◌∙◌, true≢false}
 use Rattle.std.specs.List.{list_all}
 use Rattle.std.specs.Str.{bytes_eq}
 use Rattle.std.proofs.lemmas.Bool.{and_parts}
@@ -10,7 +10,7 @@ use Rattle.cfj_model.specs.declared.expr.Expr.{Expr}
 use Rattle.cfj_model.specs.declared.expr.Expr.TheOpen.{Expr-F}
 use Rattle.cfj_model.specs.declared.expr.Expr.TheFolds.{fold-Expr}
 use Rattle.cfj_model.specs.ExpressionGrammar.{ExprTree, cast, chain, this_word, variable, StepsTree, stop, get, call, spell_expr, spell_start, spell_steps, spell_args, spell_more_args}
-use Rattle.cfj_model.specs.Coloring.{are_known}
+use Rattle.cfj_model.specs.Coloring.{Palette, are_known}
 use Rattle.cfj_model.specs.Expressions.{is_named_step, is_named_arg, is_named}
 use Rattle.cfj_model.specs.Marks.{spell_marks}
 use Rattle.cfj_words.specs.Names.{is_name, is_short_identifier}
@@ -70,7 +70,7 @@ pub or_left_of : (a b : Bool) → (a || b) ≡ true → b ≡ false → a ≡ tr
 or_left_of true b h e = refl
 or_left_of false b h e = absurd (true≢false (sym h ∙ e))
 
-module _ (features : List (List ℕ)) (well : list_all is_short_identifier features ≡ true) where
+module _ (palette : Palette) (features : List (List ℕ)) (well : list_all is_short_identifier features ≡ true) where
   abbrev shown : Expr → Shown
   shown = fold-Expr Shown (List ℕ) shown_step (shown_arg features)
 
@@ -78,15 +78,15 @@ module _ (features : List (List ℕ)) (well : list_all is_short_identifier featu
   arg_text a = marks_text features a.colors ++ (shown a.expr).text
 
   abbrev arg_named : Arg → Bool
-  arg_named a = are_known (length features) a.colors && is_named (length features) a.expr
+  arg_named a = are_known palette a.colors && is_named palette a.expr
 
   -- a well-named expression is shown as its tree
   record Printed (x : Expr) : Type 0 where
-    printed : is_named (length features) x ≡ true → IsShown (tree_of_expr features x) (shown x)
+    printed : is_named palette x ≡ true → IsShown (tree_of_expr features x) (shown x)
 
   arg_reads : (y : Proved Printed) → arg_named y.0 ≡ true → {b : Bool} {more : List ℕ} {s : List Token → List Token} → Reads true b more s
       → Reads false b (arg_text y.0 ++ more) (λ ts. spell_marks (marks_of features (y.0).colors) (spell_expr (tree_of_expr features (y.0).expr) (s ts)))
-  arg_reads y h r = both (both (marks_read features (y.0).colors well) (y.1.printed (and_parts (are_known (length features) (y.0).colors) (is_named (length features) (y.0).expr) h).1).reads) r
+  arg_reads y h r = both (both (marks_read features (y.0).colors well) (y.1.printed (and_parts (are_known palette (y.0).colors) (is_named palette (y.0).expr) h).1).reads) r
 
   more_read : (ys : List (Proved Printed)) → list_all arg_named (args_of Printed ys) ≡ true → Reads true true (texts_behind itself (map arg_text (args_of Printed ys))) (spell_more_args (more_of (map (tree_of_arg features) (args_of Printed ys))))
   more_read [] h = none
@@ -108,7 +108,7 @@ module _ (features : List (List ℕ)) (well : list_all is_short_identifier featu
   named = is_named_step
 
   abbrev named_arg : Arg-F Bool Bool → Bool
-  named_arg = is_named_arg (length features)
+  named_arg = is_named_arg palette
 
   abbrev step : Arg-F ExprTree ArgTree → ArgTree
   step = arg_tree_step features
@@ -126,15 +126,15 @@ module _ (features : List (List ℕ)) (well : list_all is_short_identifier featu
     };
     get_case = λ slot on ih field. record {
       printed = λ h.
-          let p = and_parts (is_named (length features) on) (is_short_identifier field) (sym (fold_get Bool Bool named named_arg slot on field) ∙ h) in
+          let p = and_parts (is_named palette on) (is_short_identifier field) (sym (fold_get Bool Bool named named_arg slot on field) ∙ h) in
           shown_as _ _ _ _ (fold_get ExprTree ArgTree tree_step step slot on field) (fold_get Shown (List ℕ) shown_step text_step slot on field)
           (record { kind = received_kind (tree_of_expr features on) (get field stop); reads = on_receiver (tree_of_expr features on) (shown on) (get field stop) (codes "." ++ field) true (ih.printed p.0) (both dot (identifier field (as_identifier field p.1))) });
     };
     call_case = λ slot on ih method ys. record {
       printed = λ h.
           let args = args_of Printed ys in
-          let p = and_parts (is_named (length features) on && is_short_identifier method) _ (sym (fold_call Bool Bool named named_arg slot on method args) ∙ h) in
-          let q = and_parts (is_named (length features) on) (is_short_identifier method) p.0 in
+          let p = and_parts (is_named palette on && is_short_identifier method) _ (sym (fold_call Bool Bool named named_arg slot on method args) ∙ h) in
+          let q = and_parts (is_named palette on) (is_short_identifier method) p.0 in
           let more = call method (args_tree (map (tree_of_arg features) args)) stop in
           shown_as _ _ _ _ (fold_call ExprTree ArgTree tree_step step slot on method args) (fold_call Shown (List ℕ) shown_step text_step slot on method args)
           (record {
@@ -155,12 +155,12 @@ module _ (features : List (List ℕ)) (well : list_all is_short_identifier featu
     };
     cast_case = λ slot class on ih. record {
       printed = λ h.
-          let p = and_parts (is_short_identifier class) (is_named (length features) on) (sym (fold_cast Bool Bool named named_arg slot class on) ∙ h) in
+          let p = and_parts (is_short_identifier class) (is_named palette on) (sym (fold_cast Bool Bool named named_arg slot class on) ∙ h) in
           shown_as _ _ _ _ (fold_cast ExprTree ArgTree tree_step step slot class on) (fold_cast Shown (List ℕ) shown_step text_step slot class on)
           (record { kind = refl; reads = both open_paren (both (identifier class (as_identifier class p.0)) (both (both close_paren blank) (ih.printed p.1).reads)) });
     };
   }
 
   -- the text of an expression gives the tokens of its tree
-  pub expr_reads : (x : Expr) → is_named (length features) x ≡ true → Reads false true (expr_text features x) (spell_expr (tree_of_expr features x))
+  pub expr_reads : (x : Expr) → is_named palette x ≡ true → Reads false true (expr_text features x) (spell_expr (tree_of_expr features x))
   expr_reads x h = let s = (by_cases Printed printed_cases x).printed h in s.reads

@@ -1,8 +1,8 @@
 -- Each expression's tree with the fewest brackets: where the expression is numbered, the tree stands for it.
-use Rattle.std.proofs.Common.{◌≡◌, ℕ, ◌+◌, ◌^◌, Bool, true, false, ◌&&◌, ◌==◌, codes, if◌then◌else◌, List, [], ◌∷◌, ◌++◌, length, map, flat_map, refl, sym, ap, subst, ◌∙◌, append_assoc, length-append, arith}
+use Rattle.std.proofs.Common.{◌≡◌, ℕ, ◌+◌, Bool, true, false, ◌&&◌, ◌==◌, codes, if◌then◌else◌, List, [], ◌∷◌, ◌++◌, length, map, refl, sym, ap, subst, ◌∙◌, append_assoc, length-append, arith}
 use Rattle.std.specs.List.{list_all}
 use Rattle.std.specs.Str.{bytes_eq}
-use Rattle.std.proofs.lemmas.Bool.{and_parts, ltb-true, eqb-true}
+use Rattle.std.proofs.lemmas.Bool.{and_parts, eqb-true}
 use Rattle.std.proofs.lemmas.List.{append-nil}
 use Rattle.std.proofs.lemmas.List.Concat.{flat_map-cons}
 use Rattle.std.proofs.lemmas.List.Folds.{list_all-map}
@@ -13,7 +13,8 @@ use Rattle.cfj_model.specs.declared.expr.Expr.TheOpen.{Expr-F}
 use Rattle.cfj_model.specs.declared.expr.Expr.TheVariants as e
 use Rattle.cfj_model.specs.declared.expr.Expr.TheFolds.{fold-Expr}
 use Rattle.cfj_model.specs.ExpressionGrammar.{ExprTree, cast, chain, variable, this_word, made, bracket, StepsTree, stop, get, call, ArgsTree, no_args, first_arg, MoreArgsTree, no_more, next_arg, Numbered, value_expr, value_steps, value_args, value_more_args}
-use Rattle.cfj_model.specs.Coloring.{are_known}
+use Rattle.cfj_model.specs.Coloring.{Palette, are_known}
+use Rattle.cfj_model.specs.declared.signed.Signed.{Signed}
 use Rattle.cfj_model.specs.Expressions.{of_arg, slots_step, slots, is_named_step, is_named_arg, is_named}
 use Rattle.cfj_model.specs.Marks.{colors_of}
 use Rattle.cfj_words.specs.Names.{is_short_identifier}
@@ -25,7 +26,7 @@ use Rattle.print_law.proofs.Features.{marks_of, colors_again}
 
 -- an argument's marks and its tree
 pub record ArgTree : Type 0 where
-  pub marks : List (List ℕ)
+  pub marks : List Signed
   pub tree : ExprTree
 
 abbrev pub more_of : List ArgTree → MoreArgsTree
@@ -80,7 +81,7 @@ run_first n s ss h = let p = and_parts (s == n) (run_from (n + 1) ss) h in (eqb-
 
 -- ---- the value
 
-module _ (features : List (List ℕ)) where
+module _ (palette : Palette) (features : List (List ℕ)) where
   abbrev tree : Expr → ExprTree
   tree = tree_of_expr features
 
@@ -101,18 +102,18 @@ module _ (features : List (List ℕ)) where
 
   -- the tree of a numbered expression stands for it
   pub record Again (x : Expr) : Type 0 where
-    pub again : (n : ℕ) → run_from n (slots x) ≡ true → is_named (length features) x ≡ true → value n (tree x) ≡ (x, n + length (slots x))
+    pub again : (n : ℕ) → run_from n (slots x) ≡ true → is_named palette x ≡ true → value n (tree x) ≡ (x, n + length (slots x))
 
   abbrev arg_named : Arg → Bool
-  arg_named a = are_known (length features) a.colors && is_named (length features) a.expr
+  arg_named a = are_known palette a.colors && is_named palette a.expr
 
-  module _ (distinct : are_distinct features ≡ true) where
+  module _ (distinct : are_distinct features ≡ true) (sized : palette.features ≡ length features) where
     -- an argument before others
     next_again : (a : Arg) (ts : MoreArgsTree) (done : List Arg) (n : ℕ) → Again a.expr → run_from n (slots a.expr) ≡ true → arg_named a ≡ true
         → value_more_args features n done (next_arg (arg_tree a).marks (arg_tree a).tree ts) ≡ value_more_args features (n + length (slots a.expr)) (done ++ a ∷ []) ts
     next_again a ts done n ih h k =
-        let p = and_parts (are_known (length features) a.colors) (is_named (length features) a.expr) k in
-        let colors : colors_of features (marks_of features a.colors) ≡ a.colors = colors_again features a.colors distinct (ltb-true a.colors (2 ^ length features) p.0) in
+        let p = and_parts (are_known palette a.colors) (is_named palette a.expr) k in
+        let colors : colors_of features (marks_of features a.colors) ≡ a.colors = colors_again features palette a.colors distinct sized p.0 in
         ap (λ (v : Numbered Expr). value_more_args features v.1 (done ++ record { colors = colors_of features (marks_of features a.colors); expr = v.0 } ∷ []) ts) (ih.again n h p.1)
         ∙ ap (λ c. value_more_args features (n + length (slots a.expr)) (done ++ record { colors = c; expr = a.expr } ∷ []) ts) colors
 
@@ -147,7 +148,7 @@ module _ (features : List (List ℕ)) where
     named = is_named_step
 
     abbrev named_arg : Arg-F Bool Bool → Bool
-    named_arg = is_named_arg (length features)
+    named_arg = is_named_arg palette
 
     abbrev with_number : Expr → ℕ → Numbered Expr
     with_number x n = (x, n)
@@ -170,7 +171,7 @@ module _ (features : List (List ℕ)) where
             let s = fold_get (List ℕ) (List ℕ) step of_arg slot on field in
             let r = run_append n (slots on) (slot ∷ []) (subst (λ w. run_from n w ≡ true) s h) in
             let i = run_first (n + length (slots on)) slot [] r.1 in
-            let p = and_parts (is_named (length features) on) (is_short_identifier field) (sym (fold_get Bool Bool named named_arg slot on field) ∙ k) in
+            let p = and_parts (is_named palette on) (is_short_identifier field) (sym (fold_get Bool Bool named named_arg slot on field) ∙ k) in
             ap (value n) (fold_get ExprTree ArgTree tree_step (arg_tree_step features) slot on field)
             ∙ received_value (tree on) (get field stop) n
             ∙ ap (λ (v : Numbered Expr). value_steps features v.1 v.0 (get field stop)) (ih.again n r.0 p.0)
@@ -182,8 +183,8 @@ module _ (features : List (List ℕ)) where
             let s = fold_call (List ℕ) (List ℕ) step of_arg slot on method args in
             let r = run_append n (slots on) (slot ∷ arg_slots args) (subst (λ w. run_from n w ≡ true) s h) in
             let i = run_first (n + length (slots on)) slot (arg_slots args) r.1 in
-            let p = and_parts (is_named (length features) on && is_short_identifier method) (list_all (λ b. b) (map arg_named args)) (sym (fold_call Bool Bool named named_arg slot on method args) ∙ k) in
-            let q = and_parts (is_named (length features) on) (is_short_identifier method) p.0 in
+            let p = and_parts (is_named palette on && is_short_identifier method) (list_all (λ b. b) (map arg_named args)) (sym (fold_call Bool Bool named named_arg slot on method args) ∙ k) in
+            let q = and_parts (is_named palette on) (is_short_identifier method) p.0 in
             ap (value n) (fold_call ExprTree ArgTree tree_step (arg_tree_step features) slot on method args)
             ∙ received_value (tree on) (call method (args_tree (map arg_tree args)) stop) n
             ∙ ap (λ (v : Numbered Expr). value_steps features v.1 v.0 (call method (args_tree (map arg_tree args)) stop)) (ih.again n r.0 q.0)
@@ -204,7 +205,7 @@ module _ (features : List (List ℕ)) where
         again = λ n h k.
             let s = fold_cast (List ℕ) (List ℕ) step of_arg slot class on in
             let i = run_first n slot (slots on) (subst (λ w. run_from n w ≡ true) s h) in
-            let p = and_parts (is_short_identifier class) (is_named (length features) on) (sym (fold_cast Bool Bool named named_arg slot class on) ∙ k) in
+            let p = and_parts (is_short_identifier class) (is_named palette on) (sym (fold_cast Bool Bool named named_arg slot class on) ∙ k) in
             ap (value n) (fold_cast ExprTree ArgTree tree_step (arg_tree_step features) slot class on)
             ∙ ap (λ (v : Numbered Expr). with_number (e.Cast n class v.0) v.1) (ih.again (n + 1) i.1 p.1)
             ∙ numbers _ _ _ _ (ap (λ j. e.Cast j class on) (sym i.0)) (omega (arith, ap length s));

@@ -1,17 +1,20 @@
 -- Marks in declaration order stand for their colours, and a feature's name for its number.
-use Rattle.std.proofs.Common.{◌≡◌, ◌≢◌, ℕ, zero, suc, ◌+◌, ◌<◌, ◌≤◌, ◌^◌, ◌==◌, nat_le, Bool, true, false, not, ◌||◌, cond, if◌then◌else◌, List, [], ◌∷◌, ◌++◌, length, get_or, ◌⊎◌, inl, inr, Some, position, bit_or, refl, sym, ap, subst, ◌∙◌, append_assoc, length-append, arith, true≢false}
+use Rattle.std.proofs.Common.{◌≡◌, ◌≢◌, ℕ, zero, suc, ◌+◌, ◌<◌, ◌≤◌, ◌^◌, ◌==◌, nat_le, nat_lt, min, Bool, true, false, not, ◌&&◌, ◌||◌, cond, if◌then◌else◌, List, [], ◌∷◌, ◌++◌, length, get_or, ◌⊎◌, inl, inr, Some, position, bit_and, bit_or, refl, sym, ap, subst, ◌∙◌, append_assoc, length-append, arith, true≢false}
 use Rattle.std.specs.Int.{bit_at}
 use Rattle.std.specs.List.{list_any, position_from}
 use Rattle.std.specs.Str.{bytes_eq}
-use Rattle.std.proofs.lemmas.Bool.{and_parts, eqb-true, not-true}
+use Rattle.std.proofs.lemmas.Bool.{and_parts, eqb-true, ltb-true, not-true, or_from}
 use Rattle.std.proofs.lemmas.Bool.Decides.{eqb_tells, leb_tells}
 use Rattle.std.proofs.lemmas.Iterator.Adapters.{position_from-zero}
 use Rattle.std.proofs.lemmas.List.{append-nil}
-use Rattle.std.proofs.lemmas.Nat.Bits.{bit_at-lt, bit_at-zero, bit_at_or, bit_at_above, bit_at-pow_same, bit_at-pow_other, same_from_bits}
+use Rattle.std.proofs.lemmas.Nat.Bits.{bit_at-lt, bit_at-zero, bit_at_and, bit_at_or, bit_at_above, bit_at-pow_same, bit_at-pow_other, same_from_bits}
 use Rattle.std.proofs.lemmas.Slice.Eq.{bytes_eq-Decides}
 use Rattle.cfj_logic.specs.Selections.{has_bit}
-use Rattle.cfj_model.specs.Marks.{color_at, color_of, colored, colors_of}
+use Rattle.cfj_logic.specs.Sides.{Sides, is_over}
+use Rattle.cfj_model.specs.Coloring.{no_colors, has_mark, is_marked, with_mark, is_two, Palette, are_known}
+use Rattle.cfj_model.specs.Marks.{marked_at, marked, colored, colors_of}
 use Rattle.cfj_model.specs.ProductLines.{are_new, are_distinct}
+use Rattle.cfj_model.specs.declared.signed.Signed.{Signed}
 use Rattle.cfj_words.specs.Names.{is_among}
 
 -- a text is equal to itself
@@ -74,13 +77,50 @@ has_named (f ∷ fs) (suc i) lt = or_right (bytes_eq f (get_or fs i [])) _ (has_
 
 -- ---- marks
 
--- the marks of these colours, in declaration order, of the features from a number on
-abbrev pub marks_from : ℕ → ℕ → List (List ℕ) → List (List ℕ)
-marks_from colors n [] = []
-marks_from colors n (f ∷ fs) = if has_bit colors n then f ∷ marks_from colors (n + 1) fs else marks_from colors (n + 1) fs
+-- the mark of a feature with this number and name where it is among the colours, and the marks that follow
+abbrev pub mark_before : Sides → ℕ → List ℕ → List Signed → List Signed
+mark_before colors n f rest =
+    if has_mark false n colors then record { off = false; name = f } ∷ rest else
+    if has_mark true n colors then record { off = true; name = f } ∷ rest else rest
 
-abbrev pub marks_of : List (List ℕ) → ℕ → List (List ℕ)
+-- the marks of these colours, in declaration order, of the features from a number on
+abbrev pub marks_from : Sides → ℕ → List (List ℕ) → List Signed
+marks_from colors n [] = []
+marks_from colors n (f ∷ fs) = mark_before colors n f (marks_from colors (n + 1) fs)
+
+abbrev pub marks_of : List (List ℕ) → Sides → List Signed
 marks_of features colors = marks_from colors 0 features
+
+-- what is asked of colours, part by part
+pub record ColorsKnown (p : Palette) (colors : Sides) : Type 0 where
+  pub on : colors.on < 2 ^ p.features
+  pub off : colors.off < 2 ^ p.features
+  pub disjoint : bit_and colors.on colors.off ≡ 0
+  pub signed : (is_two p.format || (colors.off == 0)) ≡ true
+
+pub colors_known : (p : Palette) (colors : Sides) → are_known p colors ≡ true → ColorsKnown p colors
+colors_known p colors h =
+    let a = and_parts (is_over p.features colors && (bit_and colors.on colors.off == 0)) (is_two p.format || (colors.off == 0)) h in
+    let b = and_parts (is_over p.features colors) (bit_and colors.on colors.off == 0) a.0 in
+    let c = and_parts (nat_lt colors.on (2 ^ p.features)) (nat_lt colors.off (2 ^ p.features)) b.0 in
+    record {
+      on = ltb-true colors.on (2 ^ p.features) c.0;
+      off = ltb-true colors.off (2 ^ p.features) c.1;
+      disjoint = eqb-true (bit_and colors.on colors.off) 0 b.1;
+      signed = a.1;
+    }
+
+no_bit_of_none : (n : ℕ) → has_bit 0 n ≡ false
+no_bit_of_none n = ap (λ b. b == 1) (bit_at-zero n)
+
+-- a feature that isn't wanted is one in format Two
+pub two_where_signed : (p : Palette) (colors : Sides) (n : ℕ) → are_known p colors ≡ true → has_mark true n colors ≡ true → is_two p.format ≡ true
+two_where_signed p colors n h marked = go (is_two p.format) (colors.off == 0) (colors_known p colors h).signed
+    (λ z. absurd (true≢false (sym marked ∙ ap (λ c. has_bit c n) (eqb-true colors.off 0 z) ∙ no_bit_of_none n)))
+  where
+    go : (a b : Bool) → (a || b) ≡ true → (b ≡ true → a ≡ true) → a ≡ true
+    go true b e f = refl
+    go false b e f = f e
 
 -- the features below a number that are among the colours
 record IsBelow (n colors acc : ℕ) : Type 0 where
@@ -124,34 +164,74 @@ none_more n colors acc b h = record {
     go g (inl lt) = b.low g lt
     go g (inr e) = subst (λ m. bit_at acc m ≡ bit_at colors m) (sym e) (b.high n (omega arith) ∙ sym no_bit)
 
-colored_again : (features before fs : List (List ℕ)) (n colors acc : ℕ) → length before ≡ n → features ≡ before ++ fs → are_new before fs ≡ true → IsBelow n colors acc → colors < 2 ^ length features
-    → colored features acc (marks_from colors n fs) ≡ colors
-colored_again features before [] n colors acc l e d b small = same_from_bits acc colors (λ g. go g (leb_tells n g))
-  where
-    size : length features ≡ n
-    size = ap length (e ∙ append-nil before) ∙ l
+-- those of both sides
+record AreBelow (n : ℕ) (colors acc : Sides) : Type 0 where
+  on : IsBelow n colors.on acc.on
+  off : IsBelow n colors.off acc.off
 
-    go : (g : ℕ) → ((nat_le n g ≡ true) × (n ≤ g)) ⊎ ((nat_le n g ≡ false) × (g < n)) → bit_at acc g ≡ bit_at colors g
-    go g (inl h) = b.high g h.1 ∙ sym (bit_at_above colors (length features) g small (subst (λ m. m ≤ g) (sym size) h.1))
+-- the next feature isn't marked yet
+unmarked : (n : ℕ) (colors acc : Sides) → AreBelow n colors acc → is_marked n acc ≡ false
+unmarked n colors acc b =
+    let on = b.on in let off = b.off in
+    or_from (has_bit acc.on n) (has_bit acc.off n) (ap (λ b. b == 1) (on.high n (omega arith))) (ap (λ b. b == 1) (off.high n (omega arith)))
+
+-- no feature is on both sides
+on_one_side : (on off n : ℕ) → bit_and on off ≡ 0 → has_bit on n ≡ true → has_bit off n ≡ false
+on_one_side on off n e h =
+    let one : bit_at on n ≡ 1 = eqb-true (bit_at on n) 1 h in
+    let least : bit_at (bit_and on off) n ≡ min (bit_at on n) (bit_at off n) = bit_at_and on off n in
+    let none : bit_at (bit_and on off) n ≡ 0 = ap (λ c. bit_at c n) e ∙ bit_at-zero n in
+    let zero_bit : bit_at off n ≡ 0 = omega (arith, one, least, none) in
+    ap (λ b. b == 1) zero_bit
+
+-- the features of a side, all of which are below their number
+side_again : (n k side acc : ℕ) → k ≡ n → IsBelow n side acc → side < 2 ^ k → acc ≡ side
+side_again n k side acc size b small = same_from_bits acc side (λ g. go g (leb_tells n g))
+  where
+    go : (g : ℕ) → ((nat_le n g ≡ true) × (n ≤ g)) ⊎ ((nat_le n g ≡ false) × (g < n)) → bit_at acc g ≡ bit_at side g
+    go g (inl h) = b.high g h.1 ∙ sym (bit_at_above side k g small (subst (λ m. m ≤ g) (sym size) h.1))
     go g (inr h) = b.low g h.1
-colored_again features before (f ∷ fs) n colors acc l e d b small =
-    go (has_bit colors n) refl
-    (λ c below. colored_again features (before ++ f ∷ []) fs (n + 1) colors c longer (split_more features before f fs e) s.others below small)
-  where
-    s : Split features before f fs
-    s = split features before f fs e d
 
-    longer : length (before ++ f ∷ []) ≡ n + 1
-    longer = let sum = length-append before (f ∷ []) in omega (arith, sum, l)
+module _ (features : List (List ℕ)) (palette : Palette) (sized : palette.features ≡ length features) (colors : Sides) (known : ColorsKnown palette colors) where
+  colored_again : (before fs : List (List ℕ)) (n : ℕ) (acc : Sides) → length before ≡ n → features ≡ before ++ fs → are_new before fs ≡ true → AreBelow n colors acc
+      → colored features acc (marks_from colors n fs) ≡ colors
+  colored_again before [] n acc l e d b =
+      ap (λ side. record acc { on = side }) (side_again n palette.features colors.on acc.on size b.on known.on)
+      ∙ ap (λ side. record colors { off = side }) (side_again n palette.features colors.off acc.off size b.off known.off)
+    where
+      size : palette.features ≡ n
+      size = sized ∙ ap length (e ∙ append-nil before) ∙ l
+  colored_again before (f ∷ fs) n acc l e d b =
+      go (has_bit colors.on n) (has_bit colors.off n) refl refl (λ c below. colored_again (before ++ f ∷ []) fs (n + 1) c longer (split_more features before f fs e) s.others below)
+    where
+      s : Split features before f fs
+      s = split features before f fs e d
 
-    color : color_of features f ≡ 2 ^ n
-    color = ap color_at (split_place features before f fs s) ∙ ap (λ m. 2 ^ m) l
+      longer : length (before ++ f ∷ []) ≡ n + 1
+      longer = let sum = length-append before (f ∷ []) in omega (arith, sum, l)
 
-    go : (x : Bool) → has_bit colors n ≡ x → ((c : ℕ) → IsBelow (n + 1) colors c → colored features c (marks_from colors (n + 1) fs) ≡ colors)
-        → colored features acc (if has_bit colors n then f ∷ marks_from colors (n + 1) fs else marks_from colors (n + 1) fs) ≡ colors
-    go true h ih = rw h (ap (λ c. colored features (bit_or acc c) (marks_from colors (n + 1) fs)) color ∙ ih (bit_or acc (2 ^ n)) (one_more n colors acc b h))
-    go false h ih = rw h (ih acc (none_more n colors acc b h))
+      one : (off : Bool) → marked features acc (record { off = off; name = f }) ≡ with_mark off n acc
+      one off =
+          ap (λ place. marked_at place off acc) (split_place features before f fs s ∙ ap Some l)
+          ∙ ap (λ b. if b then acc else with_mark off n acc) (unmarked n colors acc b)
+
+      go : (x y : Bool) → has_bit colors.on n ≡ x → has_bit colors.off n ≡ y → ((c : Sides) → AreBelow (n + 1) colors c → colored features c (marks_from colors (n + 1) fs) ≡ colors)
+          → colored features acc (mark_before colors n f (marks_from colors (n + 1) fs)) ≡ colors
+      go true y h k ih =
+          rw h
+          (ap (λ c. colored features c (marks_from colors (n + 1) fs)) (one false)
+          ∙ ih (with_mark false n acc)
+          (record { on = one_more n colors.on acc.on b.on h; off = none_more n colors.off acc.off b.off (on_one_side colors.on colors.off n known.disjoint h) }))
+      go false true h k ih =
+          rw (h, k)
+          (ap (λ c. colored features c (marks_from colors (n + 1) fs)) (one true)
+          ∙ ih (with_mark true n acc) (record { on = none_more n colors.on acc.on b.on h; off = one_more n colors.off acc.off b.off k }))
+      go false false h k ih = rw (h, k) (ih acc (record { on = none_more n colors.on acc.on b.on h; off = none_more n colors.off acc.off b.off k }))
+
+none_below : (side : ℕ) → IsBelow 0 side 0
+none_below side = record { low = λ g lt. absurd (omega arith); high = λ g le. bit_at-zero g }
 
 -- the marks of colours stand for them
-pub colors_again : (features : List (List ℕ)) (colors : ℕ) → are_distinct features ≡ true → colors < 2 ^ length features → colors_of features (marks_of features colors) ≡ colors
-colors_again features colors d small = colored_again features [] features 0 colors 0 refl refl d (record { low = λ g lt. absurd (omega arith); high = λ g le. bit_at-zero g }) small
+pub colors_again : (features : List (List ℕ)) (palette : Palette) (colors : Sides) → are_distinct features ≡ true → palette.features ≡ length features → are_known palette colors ≡ true → colors_of features (marks_of features colors) ≡ colors
+colors_again features palette colors d sized h =
+    colored_again features palette sized colors (colors_known palette colors h) [] features 0 no_colors refl refl d (record { on = none_below colors.on; off = none_below colors.off })

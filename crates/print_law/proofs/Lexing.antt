@@ -1,6 +1,6 @@
 -- Printed pieces, one behind another, give their tokens. A piece that ends in a word wants a text behind it that doesn't go on
 -- that word.
-use Rattle.std.proofs.Common.{◌≡◌, ◌≢◌, ℕ, ◌<◌, ◌==◌, Bool, true, false, not, ◌&&◌, ◌||◌, nat_lt, codes, List, [], ◌∷◌, ◌++◌, refl, sym, ap, subst, ◌∙◌, append_assoc, lit<, encode_utf8_all, true≢false}
+use Rattle.std.proofs.Common.{◌≡◌, ℕ, ◌<◌, ◌==◌, Bool, true, false, not, ◌&&◌, ◌||◌, nat_lt, codes, List, [], ◌∷◌, ◌++◌, refl, sym, ap, subst, ◌∙◌, append_assoc, lit<, encode_utf8_all, true≢false}
 use Rattle.std.specs.List.{list_all}
 use Rattle.std.specs.Str.{chars, is_utf8, IsUtf8}
 use Rattle.std.specs.Char.{is_ascii_alphabetic, is_ascii_alphanumeric}
@@ -282,66 +282,73 @@ identifier w h =
     let q = and_parts (is_utf8 w) (is_word (chars w)) p.0 in
     subst (λ t. Reads false true w (λ ts. t ∷ ts)) (identifier_is w (not-true (is_reserved w) p.1)) (word w (record { utf8 = IsUtf8-from_is_utf8 w q.0; word = q.1 }))
 
--- whether these are ASCII letters
-abbrev pub is_letter : ℕ → Bool
-is_letter c = nat_lt c 128 && is_ascii_alphabetic c && is_ascii_alphanumeric c
+-- an ASCII letter, or a digit
+abbrev is_plain : ℕ → Bool
+is_plain c = nat_lt c 128 && is_ascii_alphanumeric c
 
-letters_continue : (cs : List ℕ) → list_all is_letter cs ≡ true → list_all continues_word cs ≡ true
-letters_continue [] h = refl
-letters_continue (c ∷ cs) h =
-    let p = and_parts (is_letter c) (list_all is_letter cs) h in
-    let q = and_parts (nat_lt c 128 && is_ascii_alphabetic c) (is_ascii_alphanumeric c) p.0 in
-    let r = and_parts (nat_lt c 128) (is_ascii_alphabetic c) q.0 in
-    and_from _ _ (continues_ascii c (ltb-true c 128 r.0) ∙ ap (λ b. b || c == 95 || c == 36) q.1) (letters_continue cs p.1)
+-- a letter, and letters and digits behind it, all of ASCII
+abbrev is_plain_word : List ℕ → Bool
+is_plain_word [] = false
+is_plain_word (c ∷ cs) = nat_lt c 128 && is_ascii_alphabetic c && list_all is_plain cs
 
-letters_word : (cs : List ℕ) → list_all is_letter cs ≡ true → cs ≢ [] → is_word cs ≡ true
-letters_word [] h n = absurd (n refl)
-letters_word (c ∷ cs) h n =
-    let p = and_parts (is_letter c) (list_all is_letter cs) h in
-    let q = and_parts (nat_lt c 128 && is_ascii_alphabetic c) (is_ascii_alphanumeric c) p.0 in
-    let r = and_parts (nat_lt c 128) (is_ascii_alphabetic c) q.0 in
-    and_from _ _ (starts_ascii c (ltb-true c 128 r.0) ∙ ap (λ b. b || c == 95 || c == 36) r.1) (letters_continue cs p.1)
+plain_continue : (cs : List ℕ) → list_all is_plain cs ≡ true → list_all continues_word cs ≡ true
+plain_continue [] h = refl
+plain_continue (c ∷ cs) h =
+    let p = and_parts (is_plain c) (list_all is_plain cs) h in
+    let q = and_parts (nat_lt c 128) (is_ascii_alphanumeric c) p.0 in
+    and_from _ _ (continues_ascii c (ltb-true c 128 q.0) ∙ ap (λ b. b || c == 95 || c == 36) q.1) (plain_continue cs p.1)
 
--- a word of ASCII letters
-pub letters : (w : List ℕ) → chars w ≡ w → is_utf8 w ≡ true → list_all is_letter w ≡ true → w ≢ [] → IsWordText w
-letters w e u h n = record { utf8 = IsUtf8-from_is_utf8 w u; word = ap is_word e ∙ letters_word w h n }
+plain_is_word : (cs : List ℕ) → is_plain_word cs ≡ true → is_word cs ≡ true
+plain_is_word [] h = absurd (true≢false (sym h))
+plain_is_word (c ∷ cs) h =
+    let p = and_parts (nat_lt c 128 && is_ascii_alphabetic c) (list_all is_plain cs) h in
+    let q = and_parts (nat_lt c 128) (is_ascii_alphabetic c) p.0 in
+    and_from _ _ (starts_ascii c (ltb-true c 128 q.0) ∙ ap (λ b. b || c == 95 || c == 36) q.1) (plain_continue cs p.1)
+
+-- a word of ASCII letters and digits
+pub plain : (w : List ℕ) → chars w ≡ w → is_utf8 w ≡ true → is_plain_word w ≡ true → IsWordText w
+plain w e u h = record { utf8 = IsUtf8-from_is_utf8 w u; word = ap is_word e ∙ plain_is_word w h }
 
 pub class_word : Reads false true (codes "class") (λ ts. ClassWord ∷ ts)
 unfolding word_token chars is_utf8 encode
-class_word = word (codes "class") (letters (codes "class") refl refl refl (λ e. cc e))
+class_word = word (codes "class") (plain (codes "class") refl refl refl)
 
 pub extends_word : Reads false true (codes "extends") (λ ts. ExtendsWord ∷ ts)
 unfolding word_token chars is_utf8 encode
-extends_word = word (codes "extends") (letters (codes "extends") refl refl refl (λ e. cc e))
+extends_word = word (codes "extends") (plain (codes "extends") refl refl refl)
 
 pub super_word : Reads false true (codes "super") (λ ts. SuperWord ∷ ts)
 unfolding word_token chars is_utf8 encode
-super_word = word (codes "super") (letters (codes "super") refl refl refl (λ e. cc e))
+super_word = word (codes "super") (plain (codes "super") refl refl refl)
 
 pub this_reads : Reads false true (codes "this") (λ ts. ThisWord ∷ ts)
 unfolding word_token chars is_utf8 encode
-this_reads = word (codes "this") (letters (codes "this") refl refl refl (λ e. cc e))
+this_reads = word (codes "this") (plain (codes "this") refl refl refl)
 
 pub new_word : Reads false true (codes "new") (λ ts. NewWord ∷ ts)
 unfolding word_token chars is_utf8 encode
-new_word = word (codes "new") (letters (codes "new") refl refl refl (λ e. cc e))
+new_word = word (codes "new") (plain (codes "new") refl refl refl)
 
 pub return_word : Reads false true (codes "return") (λ ts. ReturnWord ∷ ts)
 unfolding word_token chars is_utf8 encode
-return_word = word (codes "return") (letters (codes "return") refl refl refl (λ e. cc e))
+return_word = word (codes "return") (plain (codes "return") refl refl refl)
 
 pub true_reads : Reads false true (codes "true") (λ ts. TrueWord ∷ ts)
 unfolding word_token chars is_utf8 encode
-true_reads = word (codes "true") (letters (codes "true") refl refl refl (λ e. cc e))
+true_reads = word (codes "true") (plain (codes "true") refl refl refl)
 
 pub false_reads : Reads false true (codes "false") (λ ts. FalseWord ∷ ts)
 unfolding word_token chars is_utf8 encode
-false_reads = word (codes "false") (letters (codes "false") refl refl refl (λ e. cc e))
+false_reads = word (codes "false") (plain (codes "false") refl refl refl)
+
+pub format_reads : Reads false true (codes "format2") (λ ts. Id (codes "format2") ∷ ts)
+unfolding word_token chars is_utf8 encode is_reserved
+format_reads = word (codes "format2") (plain (codes "format2") refl refl refl)
 
 pub features_reads : Reads false true (codes "features") (λ ts. Id (codes "features") ∷ ts)
 unfolding word_token chars is_utf8 encode is_reserved
-features_reads = word (codes "features") (letters (codes "features") refl refl refl (λ e. cc e))
+features_reads = word (codes "features") (plain (codes "features") refl refl refl)
 
 pub constraint_reads : Reads false true (codes "constraint") (λ ts. Id (codes "constraint") ∷ ts)
 unfolding word_token chars is_utf8 encode is_reserved
-constraint_reads = word (codes "constraint") (letters (codes "constraint") refl refl refl (λ e. cc e))
+constraint_reads = word (codes "constraint") (plain (codes "constraint") refl refl refl)

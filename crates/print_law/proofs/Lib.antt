@@ -12,3 +12,4 @@ pub mod ClassTrees
 pub mod ClassTexts
 pub mod ClassRoles
 pub mod Law
+pub mod Migrated

@@ -4,7 +4,8 @@ use Rattle.std.specs.Str.{bytes_eq}
 use Rattle.std.proofs.lemmas.Bool.{and_parts, lt-leb, le-ltb, leb-true}
 use Rattle.cfj_words.specs.Names.{is_among, is_identifier, is_short_identifier, most_name_bytes}
 use Rattle.cfj_model.specs.ProductLines.{object, most_features, most_classes, most_fields, most_methods, most_params, most_in_ctor, most_nest, most_nodes, most_size, most_formula_nodes}
-use Rattle.cfj_model.specs.Roles.{feature_name, class_name, field_name, method_name, param_name, method_param_name, sent_name, assigned_name, formula_name, formula_node, formula_opens, opens, casts, node, used_name, var_name, mark_name, Tally, is_long, broken_by}
+use Rattle.cfj_model.specs.Coloring.{is_two}
+use Rattle.cfj_model.specs.Roles.{feature_name, class_name, field_name, method_name, param_name, method_param_name, sent_name, assigned_name, formula_name, formula_node, formula_opens, opens, casts, node, used_name, var_name, mark_name, sign, Tally, is_long, broken_by}
 
 -- a short identifier isn't too long
 pub not_long : (w : List ℕ) → is_short_identifier w ≡ true → is_long w ≡ false
@@ -16,6 +17,10 @@ used_ok t w h = rw (not_long w h) refl
 
 pub mark_ok : (t : Tally) (w : List ℕ) → is_short_identifier w ≡ true → is_among t.features w ≡ true → is_among t.marks w ≡ false → broken_by t (mark_name w) ≡ None
 mark_ok t w h f m = rw (not_long w h, f, m) refl
+
+-- the `!` of a mark
+pub sign_ok : (t : Tally) → is_two t.format ≡ true → broken_by t sign ≡ None
+sign_ok t two = rw two refl
 
 pub formula_name_ok : (t : Tally) (w : List ℕ) → is_short_identifier w ≡ true → is_among t.features w ≡ true → t.formula_nodes < most_formula_nodes → broken_by t (formula_name w) ≡ None
 formula_name_ok t w h f lt = rw (not_long w h, f, lt-leb most_formula_nodes t.formula_nodes lt) refl

@@ -17,6 +17,7 @@ ghost use Rattle.std.specs.Prelude.{IfSome, IsTrue, slice_get};
 ghost use Rattle.cfj_model.specs.Languages.{IsTextOf, projects, single_classes};
 ghost use Rattle.cfj_model.specs.Numbered.{IsNumbered, is_numbered_class};
 ghost use Rattle.cfj_model.specs.Print.{class_text, printed};
+ghost use Rattle.cfj_model.specs.ProductLines.{in_format_two};
 
 use cfj_model::{Class, FeatureModel, Project};
 
@@ -24,6 +25,14 @@ use cfj_model::{Class, FeatureModel, Project};
 pub fn print_reads_back(project: &Project)
     requires numbered { IsNumbered project.now }
     ensures { IsTextOf projects (printed project.now) project.now }
+{
+    let _kept = project.model();
+}
+
+/// So is the print of the same project in format two, where its marks mean what they meant: a migrated text loses nothing.
+pub fn migrated_reads_back(project: &Project)
+    requires numbered { IsNumbered project.now }
+    ensures { IsTextOf projects (printed (in_format_two project.now)) (in_format_two project.now) }
 {
     let _kept = project.model();
 }

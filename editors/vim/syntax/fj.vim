@@ -13,6 +13,9 @@ syntax keyword fjType Object
 syntax match fjMark /@\_s*\(!\_s*\)\?\K\k*/ contains=fjSign
 syntax match fjSign /@\_s*!\?/ contained
 
+" The line for format two, at the start of a line; elsewhere its word is a name.
+syntax match fjFormat /^\s*format2\ze\_s*;/
+
 " The feature line and the constraints, each up to its `;`.
 syntax region fjFeatures matchgroup=fjModel start=/\<features\>/ matchgroup=fjEnd end=/;/ contains=fjFeature,fjComment
 syntax region fjConstraint matchgroup=fjModel start=/\<constraint\>/ matchgroup=fjEnd end=/;/ contains=fjFeature,fjTruth,fjConnective,fjComment
@@ -31,6 +34,7 @@ highlight default link fjOperator Operator
 highlight default link fjType Type
 highlight default link fjMark PreProc
 highlight default link fjSign Special
+highlight default link fjFormat Keyword
 highlight default link fjModel Keyword
 highlight default link fjFeature Constant
 highlight default link fjTruth Boolean

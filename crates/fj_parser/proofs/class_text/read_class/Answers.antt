@@ -12,23 +12,26 @@ use Rattle.fj_parser.proofs.class_text.read_class.Goals as goal
 
 pub read_text-requires : goal.read_text-requires
 read_text-requires c =
+    let format = c.args.model.now.format in
     let features = c.args.model.now.features in
-    part_settles c.under.result reads.Class features unnamed c.under.ensures (single_classes features) (class_laws features)
+    part_settles c.under.result reads.Class format features unnamed c.under.ensures (single_classes format features) (class_laws format features)
 
 pub returns-in_err-machine-clause-fault : goal.returns-in_err-machine-clause-fault
 returns-in_err-machine-clause-fault c = λ at kind e.
+    let format = c.args.model.now.format in
     let features = c.args.model.now.features in
     let p = err_from_is_err_and c.from_residual.result c.from_residual.ensures.1 in
     let told : c.read_text.result ≡ Err (At at kind) = cc (p.1, p.2, e, c.in_err-machine.was) in
-    part_fault c.under.result reads.Class features unnamed c.under.ensures (single_classes features) (class_laws features) refl c.args.text.now at kind c.utf8.text (c.read_text.ensures.fault at kind told)
+    part_fault c.under.result reads.Class format features unnamed c.under.ensures (single_classes format features) (class_laws format features) refl c.args.text.now at kind c.utf8.text (c.read_text.ensures.fault at kind told)
 
 pub only-requires : goal.only-requires
-only-requires c = ap (λ x. length x.items) c.into_classes.ensures ∙ ap length (one_class c.under.result c.args.model.now.features c.under.ensures c.args.text.now (machine_seen c.in_ok-machine.machine.value) c.in_ok-machine.ensures.read).1
+only-requires c = ap (λ x. length x.items) c.into_classes.ensures ∙ ap length (one_class c.under.result c.args.model.now.format c.args.model.now.features c.under.ensures c.args.text.now (machine_seen c.in_ok-machine.machine.value) c.in_ok-machine.ensures.read).1
 
 pub returns-clause-read : goal.returns-clause-read
 returns-clause-read c =
+    let format = c.args.model.now.format in
     let features = c.args.model.now.features in
     let n = machine_seen c.in_ok-machine.machine.value in
-    let k = one_class c.under.result features c.under.ensures c.args.text.now n c.in_ok-machine.ensures.read in
-    subst (IsTextOf (single_classes features) c.args.text.now) (k.2 ∙ one_item c.into_classes.result.items k.0 c.only.result (ap (λ y. y.items) c.into_classes.ensures ∙ k.1) c.only.ensures)
-    (part_text c.under.result reads.Class features unnamed c.under.ensures (single_classes features) (class_laws features) refl c.args.text.now n c.utf8.text c.in_ok-machine.ensures.read)
+    let k = one_class c.under.result format features c.under.ensures c.args.text.now n c.in_ok-machine.ensures.read in
+    subst (IsTextOf (single_classes format features) c.args.text.now) (k.2 ∙ one_item c.into_classes.result.items k.0 c.only.result (ap (λ y. y.items) c.into_classes.ensures ∙ k.1) c.only.ensures)
+    (part_text c.under.result reads.Class format features unnamed c.under.ensures (single_classes format features) (class_laws format features) refl c.args.text.now n c.utf8.text c.in_ok-machine.ensures.read)

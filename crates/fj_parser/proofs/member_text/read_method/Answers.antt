@@ -17,23 +17,26 @@ use Rattle.fj_parser.proofs.member_text.read_method.Goals as goal
 
 pub read_text-requires : goal.read_text-requires
 read_text-requires c =
+    let format = c.args.model.now.format in
     let features = c.args.model.now.features in
-    part_settles c.under.result reads.Method features unnamed c.under.ensures (standing_for member.Method (single_methods features)) (laws_for member.Method (single_methods features) (reader_for reads.Method features unnamed) (method_laws features))
+    part_settles c.under.result reads.Method format features unnamed c.under.ensures (standing_for member.Method (single_methods format features)) (laws_for member.Method (single_methods format features) (reader_for reads.Method format features unnamed) (method_laws format features))
 
 pub returns-in_err-machine-clause-fault : goal.returns-in_err-machine-clause-fault
 returns-in_err-machine-clause-fault c = λ at kind e.
+    let format = c.args.model.now.format in
     let features = c.args.model.now.features in
     let p = err_from_is_err_and c.from_residual.result c.from_residual.ensures.1 in
     let told : c.read_text.result ≡ Err (At at kind) = cc (p.1, p.2, e, c.in_err-machine.was) in
-    part_fault c.under.result reads.Method features unnamed c.under.ensures (standing_for member.Method (single_methods features)) (laws_for member.Method (single_methods features) (reader_for reads.Method features unnamed) (method_laws features)) refl c.args.text.now at kind c.utf8.text (c.read_text.ensures.fault at kind told)
+    part_fault c.under.result reads.Method format features unnamed c.under.ensures (standing_for member.Method (single_methods format features)) (laws_for member.Method (single_methods format features) (reader_for reads.Method format features unnamed) (method_laws format features)) refl c.args.text.now at kind c.utf8.text (c.read_text.ensures.fault at kind told)
 
 pub only-requires : goal.only-requires
-only-requires c = ap (λ x. length x.items) c.into_members.ensures.methods ∙ ap length (one_method c.under.result c.args.model.now.features c.under.ensures c.args.text.now (machine_seen c.in_ok-machine.machine.value) c.in_ok-machine.ensures.read).1
+only-requires c = ap (λ x. length x.items) c.into_members.ensures.methods ∙ ap length (one_method c.under.result c.args.model.now.format c.args.model.now.features c.under.ensures c.args.text.now (machine_seen c.in_ok-machine.machine.value) c.in_ok-machine.ensures.read).1
 
 pub returns-clause-read : goal.returns-clause-read
 returns-clause-read c =
+    let format = c.args.model.now.format in
     let features = c.args.model.now.features in
     let n = machine_seen c.in_ok-machine.machine.value in
-    let x = one_method c.under.result features c.under.ensures c.args.text.now n c.in_ok-machine.ensures.read in
-    subst (IsTextOf (standing_for member.Method (single_methods features)) c.args.text.now) (ap (λ y. member.Method y) (x.2 ∙ one_item c.into_members.result.1.items x.0 c.only.result (ap (λ y. y.items) c.into_members.ensures.methods ∙ x.1) c.only.ensures))
-    (part_text c.under.result reads.Method features unnamed c.under.ensures (standing_for member.Method (single_methods features)) (laws_for member.Method (single_methods features) (reader_for reads.Method features unnamed) (method_laws features)) refl c.args.text.now n c.utf8.text c.in_ok-machine.ensures.read)
+    let x = one_method c.under.result format features c.under.ensures c.args.text.now n c.in_ok-machine.ensures.read in
+    subst (IsTextOf (standing_for member.Method (single_methods format features)) c.args.text.now) (ap (λ y. member.Method y) (x.2 ∙ one_item c.into_members.result.1.items x.0 c.only.result (ap (λ y. y.items) c.into_members.ensures.methods ∙ x.1) c.only.ensures))
+    (part_text c.under.result reads.Method format features unnamed c.under.ensures (standing_for member.Method (single_methods format features)) (laws_for member.Method (single_methods format features) (reader_for reads.Method format features unnamed) (method_laws format features)) refl c.args.text.now n c.utf8.text c.in_ok-machine.ensures.read)

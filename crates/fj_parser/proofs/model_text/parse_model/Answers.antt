@@ -1,5 +1,6 @@
 use Rattle.std.proofs.Common.{[]}
 use Rattle.std.proofs.lemmas.Result.{IfOk-weaker}
+use Rattle.cfj_model.specs.declared.feature_model.Format.TheVariants.{One}
 use Rattle.cfj_model.specs.Languages.{IsTextOf}
 use Rattle.cfj_model.specs.PartLanguages.{models}
 use Rattle.fj_parser.specs.Goals.{reader_for}
@@ -13,11 +14,11 @@ use Rattle.fj_parser.proofs.model_text.parse_model.Goals as goal
 
 pub returns-clause-only : goal.returns-clause-only
 returns-clause-only c =
-    only_read models (reader_for reads.Model [] unnamed) model_laws c.args.text.now c.read_model.result c.read_model.ensures.read c.read_model.ensures.fault
+    only_read models (reader_for reads.Model One [] unnamed) model_laws c.args.text.now c.read_model.result c.read_model.ensures.read c.read_model.ensures.fault
 
 pub returns-clause-first : goal.returns-clause-first
 returns-clause-first c =
-    only_told models (reader_for reads.Model [] unnamed) model_laws c.args.text.now c.read_model.result c.read_model.ensures.read c.read_model.ensures.fault
+    only_told models (reader_for reads.Model One [] unnamed) model_laws c.args.text.now c.read_model.result c.read_model.ensures.read c.read_model.ensures.fault
 
 pub returns-clause-kept : goal.returns-clause-kept
 returns-clause-kept c = IfOk-weaker c.read_model.result (IsTextOf models c.args.text.now) IsModel (model_text_kept c.args.text.now) c.read_model.ensures.read

@@ -1,6 +1,7 @@
 use Rattle.std.proofs.Common.{◌≡◌, [], Err, refl, ap, sym, subst, ◌∙◌}
 use Rattle.std.proofs.lemmas.Result.{err_from_is_err_and}
 use Rattle.cfj_model.specs.declared.fault.ParseFault.TheVariants.{At}
+use Rattle.cfj_model.specs.declared.feature_model.Format.TheVariants.{One}
 use Rattle.cfj_model.specs.Languages.{IsTextOf}
 use Rattle.cfj_model.specs.PartLanguages.{models}
 use Rattle.fj_machine.specs.Machine.{unnamed}
@@ -13,16 +14,16 @@ use Rattle.fj_parser.proofs.model_text.read_model.Goals as goal
 
 pub read_text-requires : goal.read_text-requires
 read_text-requires c =
-    part_settles c.alone.result reads.Model [] unnamed c.alone.ensures models model_laws
+    part_settles c.alone.result reads.Model One [] unnamed c.alone.ensures models model_laws
 
 pub returns-in_err-machine-clause-fault : goal.returns-in_err-machine-clause-fault
 returns-in_err-machine-clause-fault c = λ at kind e.
     let p = err_from_is_err_and c.from_residual.result c.from_residual.ensures.1 in
     let told : c.read_text.result ≡ Err (At at kind) = cc (p.1, p.2, e, c.in_err-machine.was) in
-    part_fault c.alone.result reads.Model [] unnamed c.alone.ensures models model_laws refl c.args.text.now at kind c.utf8.text (c.read_text.ensures.fault at kind told)
+    part_fault c.alone.result reads.Model One [] unnamed c.alone.ensures models model_laws refl c.args.text.now at kind c.utf8.text (c.read_text.ensures.fault at kind told)
 
 pub returns-clause-read : goal.returns-clause-read
 returns-clause-read c =
     let n = machine_seen c.in_ok-machine.machine.value in
     subst (IsTextOf models c.args.text.now) (model_stands n ∙ ap (λ (l : ProductLine). l.model) (sym c.into_parts-model.ensures))
-    (part_text c.alone.result reads.Model [] unnamed c.alone.ensures models model_laws refl c.args.text.now n c.utf8.text c.in_ok-machine.ensures.read)
+    (part_text c.alone.result reads.Model One [] unnamed c.alone.ensures models model_laws refl c.args.text.now n c.utf8.text c.in_ok-machine.ensures.read)

@@ -1,6 +1,7 @@
 use Rattle.std.proofs.Common.{◌≡◌, [], Err, refl, subst, sym, ◌∙◌}
 use Rattle.std.proofs.lemmas.Result.{err_from_is_err_and}
 use Rattle.cfj_model.specs.declared.fault.ParseFault.TheVariants.{At}
+use Rattle.cfj_model.specs.declared.feature_model.Format.TheVariants.{One}
 use Rattle.cfj_model.specs.Languages.{IsTextOf}
 use Rattle.cfj_model.specs.PartLanguages.{names}
 use Rattle.fj_machine.specs.Machine.{unnamed}
@@ -12,16 +13,16 @@ use Rattle.fj_parser.proofs.name_text.read_word.Goals as goal
 
 pub read_text-requires : goal.read_text-requires
 read_text-requires c =
-    part_settles c.alone.result reads.Name [] unnamed c.alone.ensures names name_laws
+    part_settles c.alone.result reads.Name One [] unnamed c.alone.ensures names name_laws
 
 pub returns-in_err-machine-clause-fault : goal.returns-in_err-machine-clause-fault
 returns-in_err-machine-clause-fault c = λ at kind e.
     let p = err_from_is_err_and c.from_residual.result c.from_residual.ensures.1 in
     let told : c.read_text.result ≡ Err (At at kind) = cc (p.1, p.2, e, c.in_err-machine.was) in
-    part_fault c.alone.result reads.Name [] unnamed c.alone.ensures names name_laws refl c.args.text.now at kind c.utf8.text (c.read_text.ensures.fault at kind told)
+    part_fault c.alone.result reads.Name One [] unnamed c.alone.ensures names name_laws refl c.args.text.now at kind c.utf8.text (c.read_text.ensures.fault at kind told)
 
 pub returns-clause-read : goal.returns-clause-read
 returns-clause-read c =
     let n = machine_seen c.in_ok-machine.machine.value in
     subst (IsTextOf names c.args.text.now) (name_stands n ∙ sym c.into_name.ensures.name)
-    (part_text c.alone.result reads.Name [] unnamed c.alone.ensures names name_laws refl c.args.text.now n c.utf8.text c.in_ok-machine.ensures.read)
+    (part_text c.alone.result reads.Name One [] unnamed c.alone.ensures names name_laws refl c.args.text.now n c.utf8.text c.in_ok-machine.ensures.read)

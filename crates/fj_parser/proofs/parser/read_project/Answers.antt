@@ -27,4 +27,4 @@ pub of-requires : goal.of-requires
 of-requires c =
     let model = c.in_ok-model.model in
     let classes = c.in_ok-model.classes.items in
-    subst (λ m. IsProject (record { model = m; classes = classes })) (sym c.in_ok-model-2.ensures.ok) (text_kept c.in-Ok.text.now (of_parts model.features model.constraints classes) c.in_ok-model.ensures.read)
+    subst (λ m. IsProject (record { model = m; classes = classes })) (sym c.in_ok-model-2.ensures.ok) (text_kept c.in-Ok.text.now (of_parts model.format model.features model.constraints classes) c.in_ok-model.ensures.read)

@@ -78,7 +78,7 @@ tokens-preserved c =
     record {
       placed = token_goes (met_of c.args.part) (reader_of c.args.part) c.requires.settles _ _ _ _ _ (machine_seen c.tokens.machine) (machine_seen c.take.new.machine) (tally_seen c.tokens.tally) (tally_seen c.take.new.tally) (waiting_places c.tokens.waiting) (waiting_roles c.take.new.waiting) (waiting_places c.take.new.waiting) c.tokens.invariant.placed r taken;
       waits = taken.waits;
-      counted = counts_on c.args.part.goal c.args.part.features.now c.args.part.class.now _ _ _ _ (symbol_seen c.symbol_of.result) c.tokens.invariant.counted taken.accepted;
+      counted = counts_on c.args.part.goal c.args.part.format c.args.part.features.now c.args.part.class.now _ _ _ _ (symbol_seen c.symbol_of.result) c.tokens.invariant.counted taken.accepted;
       whole = c.in-Some.ensures.same ∙ c.tokens.invariant.whole;
     }
 

@@ -11,4 +11,4 @@ count_feature-requires c =
     let i = c.each.item-index in
     let there : slice_get names i ≡ Some c.item-item.result = slice_get_read names (length names) i c.item-item.result refl c.each-test.true c.item-item.is in
     ap (λ t. broken_by t (feature_name c.text.result.now)) c.each.invariant
-    ∙ feature_fits names i c.text.result.now c.args.self.few c.args.self.distinct (subst (λ (w : List ℕ). is_name w ≡ true) (sym c.text.ensures.value) c.text.ensures.named) (subst (λ (w : List ℕ). slice_get names i ≡ Some w) (sym c.text.ensures.value) there)
+    ∙ feature_fits c.args.self.format names i c.text.result.now c.args.self.few c.args.self.distinct (subst (λ (w : List ℕ). is_name w ≡ true) (sym c.text.ensures.value) c.text.ensures.named) (subst (λ (w : List ℕ). slice_get names i ≡ Some w) (sym c.text.ensures.value) there)

@@ -1,4 +1,4 @@
-use Rattle.std.proofs.Common.{refl}
+use Rattle.std.proofs.Common.{◌≡◌, refl}
 use Rattle.cfj_model.specs.Print.{printed}
 use Rattle.cfj_model.specs.ProductLines.{in_format_two}
 use Rattle.cide_tool.specs.Endings.{Ends, done}

@@ -144,7 +144,7 @@ fn read_on<'a>(
     tally: &mut Tally<'a>,
 ) -> Result<(), ParseFault>
     requires settles { SettlesEach (reader_of part) }
-    requires start { machine_seen machine.old ≡ start_for part.goal part.features.now part.class.now }
+    requires start { machine_seen machine.old ≡ start_for part.goal part.format part.features.now part.class.now }
     requires nothing { tally_seen tally.old ≡ nothing }
     ensures read { OnOk result (IsReadTo (met_of part.entry) (reader_of part.entry) text.entry.now (machine_seen machine.new)) }
     ensures fault { (at : ℕ) (kind : _) → result ≡ Err (ParseFault.At at kind) → IsStopped (met_of part.entry) (reader_of part.entry) text.entry.now at kind }

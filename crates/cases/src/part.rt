@@ -179,6 +179,9 @@ fn expression_told(alloc: Global, text: &str) -> Result<Answer, AllocError> {
 /// What is told of a text whose marks name the features `F` and `G`.
 fn marked_told(alloc: Global, kind: &str, text: &str) -> Result<Option<Answer>, AllocError> {
     let (kind, model) = kind_and_model(kind);
+    if model.len() > MOST_BYTES {
+        return Ok(None);
+    }
     let Ok(project) = parse_project(alloc, model) else {
         return Ok(None);
     };

@@ -1,4 +1,6 @@
+mod NameSets
 mod Paths
+mod SizeSums
 pub mod ExprCases
 pub mod FormatTwo
 pub mod Members

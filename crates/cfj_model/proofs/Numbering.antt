@@ -15,7 +15,6 @@ use Rattle.cfj_model.specs.Marks.{colors_of}
 use Rattle.cfj_model.specs.ProductLines.{ProductLine}
 use Rattle.cfj_model.specs.declared.class.Class.{Class}
 use Rattle.cfj_model.specs.declared.feature_model.Format.{Format}
-use Rattle.cfj_model.specs.declared.signed.Signed.{Signed}
 use Rattle.cfj_model.specs.Numbered.{run_from, is_numbered_ctor, is_numbered_method, is_numbered_class, IsNumbered}
 use Rattle.cfj_model.proofs.ExprCases.{fold_var, fold_get, fold_call, fold_new, fold_cast}
 use Rattle.cfj_model.proofs.Members.{fields_are_numbered, methods_are_numbered, numbered_methods-all}

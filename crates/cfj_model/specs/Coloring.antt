@@ -1,6 +1,6 @@
 -- The colours of nodes, after CIDE (Kästner, Apel, Kuhlemann, ICSE 2008), with a sign: features that are wanted, and
 -- features that are not. The names `on` and `off` are those of a clause's two sides.
-use Rattle.std.specs.Prelude.{ℕ, ◌^◌, Bool, true, false, ◌&&◌, ◌||◌, ◌==◌, length, bit_and, bit_or, if◌then◌else◌}
+use Rattle.std.specs.Prelude.{ℕ, ◌^◌, Bool, true, false, ◌&&◌, ◌||◌, ◌==◌, length, bit_and, bit_or}
 use Rattle.cfj_logic.specs.Selections.{has_bit}
 use Rattle.cfj_logic.specs.Sides.{Sides, is_over}
 use Rattle.cfj_model.specs.declared.feature_model.FeatureModel.{FeatureModel}

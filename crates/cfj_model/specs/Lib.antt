@@ -19,5 +19,6 @@ pub mod ProductLines
 pub mod Projection
 pub mod Roles
 pub mod Sites
+pub mod Sizes
 pub mod TreeRoles
 pub mod Typing

@@ -1,6 +1,8 @@
 //! Classes, their members and what these are made of.
 
-ghost use Rattle.std.specs.Prelude.{◌≡◌, IfOk};
+ghost use Rattle.std.specs.Prelude.{◌≡◌, IfOk, sum_by};
+ghost use Rattle.cfj_model.specs.ProductLines.{class_size, method_size};
+ghost use Rattle.cfj_model.specs.Sizes.{counted};
 
 use crate::colors::Colors;
 use crate::expr::Expr;
@@ -206,6 +208,14 @@ impl Method {
             body,
         })
     }
+
+    /// The method, its parameters and its nodes together; the greatest `usize` where that is less.
+    pub fn size(&self) -> usize
+        ensures { result ≡ counted (method_size self.now) }
+    {
+        let signature = self.params.slice().len().saturating_add(1);
+        signature.saturating_add(self.body.node_count())
+    }
 }
 
 impl Copied for Method {
@@ -241,4 +251,29 @@ impl Class {
             methods,
         })
     }
+
+    /// The class, its fields, methods, parameters, sent names, assignments and expression nodes together; the greatest `usize` where
+    /// that is less.
+    pub fn size(&self) -> usize
+        ensures { result ≡ counted (class_size self.now) }
+    {
+        let ctor = self.ctor.params.slice().len();
+        let ctor = ctor.saturating_add(self.ctor.sends.slice().len());
+        let ctor = ctor.saturating_add(self.ctor.assigns.slice().len());
+        let members = self.fields.slice().len().saturating_add(ctor);
+        members
+            .saturating_add(1)
+            .saturating_add(methods_size(self.methods.slice()))
+    }
+}
+
+// The sizes of methods together.
+fn methods_size(methods: &[Method]) -> usize
+    ensures { result ≡ counted (sum_by method_size methods.now) }
+{
+    let mut size = 0usize;
+    'each: for method in methods {
+        size = size.saturating_add(method.size());
+    }
+    size
 }

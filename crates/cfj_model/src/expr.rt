@@ -1,6 +1,8 @@
 //! Expressions.
 
-ghost use Rattle.std.specs.Prelude.{◌≡◌, IfOk, take};
+ghost use Rattle.std.specs.Prelude.{◌≡◌, IfOk, sum_by, take};
+ghost use Rattle.cfj_model.specs.Expressions as spec;
+ghost use Rattle.cfj_model.specs.Sizes.{counted};
 
 use crate::colors::Colors;
 use cfj_words::{Boxed, Items, Name, both};
@@ -108,6 +110,35 @@ impl Expr {
             }
         }
     }
+
+    /// The number of its nodes; the greatest `usize` where that is less.
+    #[cycle(count)]
+    pub fn node_count(&self) -> usize
+        ensures { result ≡ counted (spec.node_count self.now) }
+    {
+        match self {
+            Expr::Var { .. } => 1,
+            Expr::Get { on, .. } => on.get().node_count().saturating_add(1),
+            Expr::Call { on, args, .. } => {
+                let on = on.get().node_count().saturating_add(1);
+                on.saturating_add(args_node_count(args.slice()))
+            }
+            Expr::New { args, .. } => args_node_count(args.slice()).saturating_add(1),
+            Expr::Cast { on, .. } => on.get().node_count().saturating_add(1),
+        }
+    }
+}
+
+// The nodes of all arguments.
+#[cycle(count)]
+fn args_node_count(args: &[Arg]) -> usize
+    ensures { result ≡ counted (sum_by (λ a. spec.node_count a.expr) args.now) }
+{
+    let mut count = 0usize;
+    'each: for arg in args {
+        count = count.saturating_add(arg.expr.node_count());
+    }
+    count
 }
 
 #[cycle(copy)]

@@ -6,6 +6,7 @@
 #![tactic(auto)]
 
 mod class;
+mod class_names;
 mod colors;
 mod edit;
 mod expr;
@@ -36,6 +37,7 @@ pub use member::Member;
 pub use member_name::MemberName;
 pub use path::read_site;
 pub use project::Project;
+pub use shared_list::Shared;
 pub use signed::Signed;
 pub use site::{Rule, Site};
 pub use site_ref::SiteRef;

@@ -69,7 +69,8 @@ impl<T> SharedList<T> {
         self.owner(place).get()
     }
 
-    fn owner(&self, place: usize) -> &Shared<T>
+    /// An owner of the item at a place, from 0, which may be shared with what outlives the list.
+    pub fn owner(&self, place: usize) -> &Shared<T>
         requires { place < length self.now }
         ensures { slice_get self.now place ≡ Some result.now }
     {

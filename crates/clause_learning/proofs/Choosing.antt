@@ -1,5 +1,5 @@
 -- Sets of features by their values.
-use Rattle.std.proofs.Common.{◌≡◌, ◌≢◌, ℕ, ◌+◌, ◌^◌, ◌<◌, ◌≤◌, ◌⊎◌, inl, inr, Bool, true, false, not, List, length, get_or, Option, Some, None, eqb, ◌&&◌, nat_lt, bit_and, bit_or, refl, sym, ◌∙◌, ap, subst, arith}
+use Rattle.std.proofs.Common.{◌≡◌, ◌≢◌, ℕ, ◌+◌, ◌^◌, ◌<◌, ◌≤◌, ◌⊎◌, inl, inr, Bool, true, false, not, List, get_or, Option, Some, None, eqb, ◌&&◌, nat_lt, bit_and, bit_or, refl, sym, ◌∙◌, ap, subst, arith}
 use Rattle.std.proofs.lemmas.Bool.Decides.{eqb_tells}
 use Rattle.std.proofs.lemmas.Bool.{lt-ltb}
 use Rattle.std.proofs.lemmas.Nat.{or_lt}
@@ -83,7 +83,7 @@ gathered_past : (n : ℕ) (c : Sides) (w : ℕ → Option Bool) (f : ℕ) (on : 
 gathered_past n c w f true g h le = g.past f le
 gathered_past n c w f false g h le = h.past f le
 
-twice : (b : Bool) → not (not b) ≡ b
+pub twice : (b : Bool) → not (not b) ≡ b
 twice true = refl
 twice false = refl
 

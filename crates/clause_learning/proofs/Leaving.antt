@@ -1,13 +1,12 @@
 -- What resolving along a trail leaves.
-use Rattle.std.proofs.Common.{◌≡◌, ℕ, ◌+◌, ◌<◌, ◌≤◌, ◌⊎◌, inl, inr, Bool, true, false, List, length, get_or, take, slice_get, Option, Some, None, refl, sym, ◌∙◌, ap, subst, arith}
-use Rattle.std.specs.Prelude.{IfNone}
-use Rattle.std.proofs.lemmas.Option.{slice_get_within, slice_get-get_or}
+use Rattle.std.proofs.Common.{◌≡◌, ℕ, ◌+◌, ◌<◌, ◌≤◌, ◌⊎◌, inl, inr, Bool, true, false, List, length, get_or, take, slice_get, Some, None, sym, ◌∙◌, ap, subst, arith}
+use Rattle.std.proofs.lemmas.Option.{slice_get_within}
 use Rattle.cfj_logic.specs.declared.clauses.Literal.{Literal}
-use Rattle.cfj_logic.specs.UnitClauses.{Values, value_of, Leads}
+use Rattle.cfj_logic.specs.UnitClauses.{Values, value_of}
 use Rattle.unit_propagation.specs.declared.trail.Step.{Step}
 use Rattle.unit_propagation.specs.Trails.{values_after}
 use Rattle.unit_propagation.proofs.UnitSteps.{one_value, stuck}
-use Rattle.clause_learning.specs.Decided.{IsValued, IsDecision, IsTrail, IsLastDecision}
+use Rattle.clause_learning.specs.Decided.{IsValued, IsTrail, IsLastDecision}
 use Rattle.clause_learning.specs.Denials.{IsMarked, AreUnmarked, Denies, Keeps, Resolves, LeavesOne, LeavesFeatures}
 use Rattle.clause_learning.proofs.Resolving.{decided_at, within_whole}
 use Rattle.clause_learning.proofs.Valuing.{values_length, none_first, step_free, free_front, valued_front, step_value, valued_split, valued_between}

@@ -5,3 +5,4 @@ pub mod Leaving
 pub mod Marking
 pub mod Resolving
 pub mod Valuing
+pub mod Watching

@@ -1,13 +1,12 @@
 -- Marks of variables.
-use Rattle.std.proofs.Common.{◌≡◌, ◌≢◌, ℕ, zero, suc, ◌<◌, ◌≤◌, ◌⊎◌, inl, inr, Bool, true, false, List, [], ◌∷◌, length, get_or, slice_set, eqb, Some, None, refl, sym, ◌∙◌, ap, subst, arith}
-use Rattle.std.specs.Prelude.{replicate, All}
+use Rattle.std.proofs.Common.{◌≡◌, ◌≢◌, ℕ, zero, suc, ◌<◌, ◌≤◌, ◌⊎◌, inl, inr, Bool, true, false, List, [], ◌∷◌, length, get_or, slice_set, eqb, refl, sym, ◌∙◌, ap, subst, arith}
+use Rattle.std.specs.Prelude.{replicate}
 use Rattle.std.proofs.lemmas.Bool.Decides.{eqb_tells}
 use Rattle.std.proofs.lemmas.List.{get_or-set_same, get_or-set_other}
 use Rattle.cfj_logic.specs.declared.clauses.Literal.{Literal}
 use Rattle.cfj_words.specs.Lists.{Has}
-use Rattle.cfj_logic.specs.Logs.{AreBelow}
 use Rattle.unit_propagation.specs.Standings.{literal_eq}
-use Rattle.unit_propagation.proofs.Members.{lt_or_ge, has_none, all_has}
+use Rattle.unit_propagation.proofs.Members.{lt_or_ge, has_none}
 use Rattle.unit_propagation.proofs.Standing.{literal_eq_true, literal_eq_false}
 use Rattle.clause_learning.specs.Denials.{IsMarked, with_all, with_other, with_others}
 

@@ -1,25 +1,21 @@
 -- Resolving along a trail.
-use Rattle.std.proofs.Common.{◌≡◌, ◌≢◌, ℕ, ◌+◌, ◌<◌, ◌≤◌, ◌⊎◌, inl, inr, Bool, true, false, not, List, length, get_or, take, slice_get, slice_set, Option, Some, None, refl, sym, ◌∙◌, ap, subst, arith}
-use Rattle.std.proofs.lemmas.Bool.Decides.{eqb_tells}
+use Rattle.std.proofs.Common.{◌≡◌, ℕ, ◌+◌, ◌<◌, ◌≤◌, ◌⊎◌, inl, inr, Bool, false, not, List, length, get_or, take, slice_get, slice_set, Option, Some, None, refl, sym, ◌∙◌, ap, subst, arith}
 use Rattle.std.proofs.lemmas.List.{get_or-set_same}
 use Rattle.std.proofs.lemmas.Option.{slice_get_within, slice_get-get_or}
 use Rattle.std.proofs.Math.Seq.{take-length}
-use Rattle.std.specs.Prelude.{All, replicate}
 use Rattle.cfj_logic.specs.declared.clauses.Literal.{Literal}
 use Rattle.cfj_words.specs.Lists.{Has}
 use Rattle.cfj_logic.specs.UnitClauses.{Values, value_of, IsFalse, IsFalsified, with_true, IsUnit, Leads}
 use Rattle.cfj_logic.specs.Logs.{AreBelow}
 use Rattle.unit_propagation.specs.declared.trail.Step.{Step}
-use Rattle.unit_propagation.specs.Falsified.{IsFalsifiedAt}
-use Rattle.unit_propagation.specs.Standings.{AreOpen}
 use Rattle.unit_propagation.specs.Trails.{values_after}
-use Rattle.unit_propagation.proofs.Members.{lt_or_ge, all_has}
-use Rattle.unit_propagation.proofs.UnitSteps.{Within, value_cases, one_value, grown, grown_within, leads_here, leads_after, reaches_one, stuck}
+use Rattle.unit_propagation.proofs.Members.{all_has}
+use Rattle.unit_propagation.proofs.UnitSteps.{Within, value_cases, one_value, grown, leads_here, leads_after, reaches_one}
 use Rattle.refutation_check.proofs.FirstValues.{set_length}
-use Rattle.clause_learning.specs.Decided.{IsValued, IsDecision, IsImplied, AreSteps, IsTrail, AreCaused, IsLastDecision, AreBelowIn}
-use Rattle.clause_learning.specs.Denials.{IsMarked, AreUnmarked, with_all, with_others, Keeps, Denies, Resolves, LeavesOne, LeavesFeatures}
-use Rattle.clause_learning.proofs.Marking.{all_size, all_marked, all_source, none_marked, set_size, others_size, others_still, others_marked, others_source, unmarked_others, unmarked_source}
-use Rattle.clause_learning.proofs.Valuing.{values_length, none_first, step_free, steps_below, within_front, free_front, valued_front, step_value, valued_split, valued_between}
+use Rattle.clause_learning.specs.Decided.{IsValued, IsDecision, IsImplied, IsTrail}
+use Rattle.clause_learning.specs.Denials.{IsMarked, with_others, Keeps, Denies, Resolves}
+use Rattle.clause_learning.proofs.Marking.{set_size, others_size, others_still, others_marked, others_source, unmarked_others, unmarked_source}
+use Rattle.clause_learning.proofs.Valuing.{values_length, steps_below, within_front, step_value}
 
 -- ---- what marked variables deny
 

@@ -1,18 +1,17 @@
 -- The values along a trail.
-use Rattle.std.proofs.Common.{◌≡◌, ℕ, zero, suc, ◌+◌, ◌-◌, ◌<◌, ◌≤◌, ◌⊎◌, inl, inr, Bool, List, [], ◌∷◌, ◌++◌, length, get_or, take, Option, Some, None, slice_get, refl, sym, ◌∙◌, ap, subst, arith}
+use Rattle.std.proofs.Common.{◌≡◌, ℕ, zero, suc, ◌+◌, ◌-◌, ◌<◌, ◌≤◌, ◌⊎◌, inl, inr, Bool, List, [], ◌∷◌, ◌++◌, length, take, Option, Some, None, slice_get, refl, sym, ◌∙◌, ap, subst, arith}
 use Rattle.std.specs.Prelude.{replicate, All}
 use Rattle.std.proofs.lemmas.List.{take_more, get_or-set_same}
 use Rattle.std.proofs.lemmas.Option.{slice_get_within, get_or_from_slice_get}
 use Rattle.cfj_logic.specs.declared.clauses.Literal.{Literal}
-use Rattle.cfj_words.specs.Lists.{Has}
-use Rattle.cfj_logic.specs.UnitClauses.{Values, value_of, IsUnvalued, with_true, IsUnit}
+use Rattle.cfj_logic.specs.UnitClauses.{Values, value_of, IsUnvalued, with_true}
 use Rattle.cfj_logic.specs.Logs.{AreBelow}
 use Rattle.unit_propagation.specs.declared.trail.Step.{Step}
 use Rattle.unit_propagation.specs.Trails.{values_from, values_after}
-use Rattle.unit_propagation.proofs.Members.{lt_or_ge, all_has}
+use Rattle.unit_propagation.proofs.Members.{all_has}
 use Rattle.unit_propagation.proofs.UnitSteps.{Within, set_cases, grown}
 use Rattle.refutation_check.proofs.FirstValues.{fixed_none, fixed_length, set_length}
-use Rattle.clause_learning.specs.Decided.{IsValued, IsDecision, IsImplied, AreSteps, IsTrail, AreBelowIn}
+use Rattle.clause_learning.specs.Decided.{IsValued, IsDecision, IsImplied, IsTrail, AreBelowIn}
 
 pub values_push : (vs : Values) (t : List Step) (s : Step) → values_from vs (t ++ s ∷ []) ≡ with_true (values_from vs t) s.literal
 values_push vs [] s = refl

@@ -1,11 +1,11 @@
 -- What marked variables deny.
-use Rattle.std.specs.Prelude.{◌≡◌, ℕ, ◌<◌, ◌≤◌, Bool, true, false, not, ◌⊎◌, if◌then◌else◌, Option, Some, None, bit_and}
+use Rattle.std.specs.Prelude.{◌≡◌, ℕ, ◌+◌, ◌<◌, ◌≤◌, Bool, true, false, not, ◌⊎◌, if◌then◌else◌, Option, Some, None, IfSome, IfNone, bit_and}
 use Rattle.std.specs.Prelude.{List, [], ◌∷◌, length, take, get_or, slice_get, slice_set}
 use Rattle.cfj_logic.specs.declared.clauses.Literal.{Literal}
 use Rattle.cfj_logic.specs.Selections.{has_bit}
 use Rattle.cfj_logic.specs.Sides.{Sides, is_over}
 use Rattle.cfj_words.specs.Lists.{Has}
-use Rattle.cfj_logic.specs.UnitClauses.{Values, value_of, IsFalse, IsFalsified, Leads}
+use Rattle.cfj_logic.specs.UnitClauses.{Values, value_of, IsFalse, IsUnvalued, IsFalsified, IsUnit, Leads}
 use Rattle.cfj_logic.specs.Logs.{literals, assumed}
 use Rattle.unit_propagation.specs.declared.trail.Step.{Step}
 use Rattle.unit_propagation.specs.Standings.{bool_eq, literal_eq, IsOpen}
@@ -24,6 +24,12 @@ IsMarked marks x = get_or marks x false ≡ true
 abbrev pub AreUnmarked : List Bool → List Step → ℕ → ℕ → Type 0
 AreUnmarked marks t from to =
     (k : ℕ) (s : Step) → from ≤ k → k < to → slice_get t k ≡ Some s → IsMarked marks s.literal.var → ⊥
+
+-- this step is the last of those before a place whose variables are marked
+pub record IsLastMarked (marks : List Bool) (t : List Step) (to place : ℕ) : Type 0 where
+  pub within : place < to
+  pub marked : (s : Step) → slice_get t place ≡ Some s → IsMarked marks s.literal.var
+  pub later : AreUnmarked marks t (place + 1) to
 
 -- the marks with the variables of a clause's literals
 abbrev pub with_all : List Bool → List Literal → List Bool
@@ -70,7 +76,8 @@ pub record IsDenial (n : ℕ) (vs : Values) (marks : List Bool) (c : Sides) : Ty
   pub all : (x : ℕ) (b : Bool) → x < n → IsMarked marks x → value_of vs x ≡ Some b →
       Has (literals c) (record { var = x; on = not b })
 
--- a conflict taught this clause: one of its literals was not false before the last decision, and two before earlier ones
+-- a conflict taught this clause: one of its literals had no value before the last decision, and the others were false
+-- there; the decision to go back to is the first before which the others are false, so that it is a unit clause there
 pub record IsTaught (cs : Premises) (n vars : ℕ) (t : List Step) (k : ℕ) (c : Sides) (target : ℕ) : Type 0 where
   pub over : is_over n c ≡ true
   pub once : bit_and c.on c.off ≡ 0
@@ -78,9 +85,34 @@ pub record IsTaught (cs : Premises) (n vars : ℕ) (t : List Step) (k : ℕ) (c 
   pub falsified : IsFalsified (values_after vars t) (literals c)
   pub literal : Literal
   pub has : Has (literals c) literal
+  pub free : IsUnvalued (values_after vars (take k t)) literal
   pub others : (m : Literal) → Has (literals c) m → (m ≡ literal) ⊎ IsFalse (values_after vars (take k t)) m
   pub open_before : (j : ℕ) (s : Step) → j < target → slice_get t j ≡ Some s → s.cause ≡ None →
       IsOpen (values_after vars (take j t)) (literals c)
+  pub unit : IsUnit (values_after vars (take target t)) (literals c) literal
+  pub decision : (s : Step) → slice_get t target ≡ Some s → s.cause ≡ None
+
+-- the literal with the other value
+abbrev pub negated : Literal → Literal
+negated l = record { var = l.var; on = not l.on }
+
+-- of the clause's literals other than the first, the second became false last: wherever it is false, all of them are
+pub record IsLastFalse (vars : ℕ) (t : List Step) (k : ℕ) (c : Sides) (l m : Literal) : Type 0 where
+  pub has : Has (literals c) m
+  pub other : m ≡ l → ⊥
+  pub falsified : IsFalse (values_after vars (take k t)) m
+  pub last : (j : ℕ) → IsFalse (values_after vars (take j t)) m → (d : Literal) → Has (literals c) d →
+      (d ≡ l) ⊎ IsFalse (values_after vars (take j t)) d
+
+-- the first literal is the one of the clause that had no value before the last decision; the second became false last
+-- of the others, if there are any
+pub record AreToWatch (vars : ℕ) (t : List Step) (k : ℕ) (c : Sides) (first second : Option Literal) : Type 0 where
+  pub literal : Literal
+  pub is_first : first ≡ Some literal
+  pub has : Has (literals c) literal
+  pub free : IsUnvalued (values_after vars (take k t)) literal
+  pub some : IfSome second (λ m. IsLastFalse vars t k c literal m)
+  pub none : IfNone second ((m : Literal) → Has (literals c) m → m ≡ literal)
 
 -- the value is there, and is this one
 abbrev pub is_value : Bool → Option Bool → Bool

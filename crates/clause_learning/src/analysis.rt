@@ -1,11 +1,12 @@
 //! The analysis of a conflict.
 
-ghost use Rattle.std.specs.Prelude.{◌≡◌, ◌<◌, ◌≤◌, ℕ, length, All, IfOk, IfSome};
+ghost use Rattle.std.specs.Prelude.{◌≡◌, ◌<◌, ◌≤◌, ℕ, length, slice_get, All, IfOk, IfSome, IfNone, Some, None};
+ghost use Rattle.unit_propagation.specs.declared.trail.Step.{Step as TrailStep};
 ghost use Rattle.unit_propagation.specs.Falsified.{IsFalsifiedAt};
 ghost use Rattle.unit_propagation.specs.Trails.{values_after};
 ghost use Rattle.cfj_logic.specs.Logs.{AreBelow};
 ghost use Rattle.clause_learning.specs.Decided.{IsTrail, IsLastDecision, IsValued};
-ghost use Rattle.clause_learning.specs.Denials.{IsMarked, Denies, LeavesFeatures, IsTaught};
+ghost use Rattle.clause_learning.specs.Denials.{IsMarked, Denies, LeavesFeatures, IsTaught, AreToWatch, negated};
 
 use crate::chosen::denial;
 use crate::marks::{mark_all, no_marks};
@@ -21,17 +22,20 @@ use unit_propagation::Step;
 pub struct Learned {
     /// The clause.
     pub clause: Clause,
-    /// Its literal that is false since the last decision.
+    /// Its literal that had no value before the last decision; there always is one.
     pub first: Option<Literal>,
-    /// Of the others the one that became false last.
+    /// Of its other literals the one that became false last, or `None` where there is no other.
     pub second: Option<Literal>,
-    /// The length of the trail to go back to, under which all its literals but the first are false.
+    /// The length of the trail to go back to: of the decisions the place of the first before which all its literals but the
+    /// first are false.
     pub target: usize,
 }
 
-/// The literal that a step makes false.
+/// The literal that the step at this place made false.
 fn denied(trail: &[Step], place: Option<usize>) -> Option<Literal>
     requires { IfSome place (λ k. k < length trail.now) }
+    ensures some { IfSome place (λ k. (s : TrailStep) → slice_get trail.now k ≡ Some s → result ≡ Some (negated s.literal)) }
+    ensures none { IfNone place (result ≡ None) }
 {
     match place {
         Some(place) => {
@@ -63,28 +67,25 @@ fn conflict_marks(
 }
 
 /// Resolves the marked variables' literals along the trail until features alone are left, and of those behind the last decision one.
-/// Its place is the result.
 fn resolve_all(
     features: u8,
     clauses: &[Items<Literal>],
     trail: &[Step],
     decision: usize,
     marks: &mut [bool],
-) -> Option<usize>
+)
     requires trail { IsTrail clauses.now features (length marks.old) trail.now }
     requires decision { IsLastDecision trail.now decision }
     requires denies { Denies clauses.now (values_after (length marks.old) trail.now) marks.old }
     requires valued { (x : ℕ) → IsMarked marks.old x → IsValued (values_after (length marks.old) trail.now) x }
     ensures denies { Denies clauses.now (values_after (length marks.old) trail.now) marks.new }
     ensures features { LeavesFeatures features (length marks.old) trail.now decision marks.new }
-    ensures place { IfSome result (λ place. place < length trail.now) }
 {
-    let first = resolve_last(features, clauses, trail, decision, marks);
+    resolve_last(features, clauses, trail, decision, marks);
     resolve_others(features, clauses, trail, decision, marks);
-    first
 }
 
-/// The clause that denies the marked variables' values, and the place to go back to.
+/// The clause that denies the marked variables' values, its literals to watch, and the place to go back to.
 fn learned_of(
     features: u8,
     clauses: &[Items<Literal>],
@@ -92,7 +93,6 @@ fn learned_of(
     trail: &[Step],
     decision: usize,
     marks: &[bool],
-    first: Option<usize>,
 ) -> Learned
     requires few { features ≤ 128 }
     requires values { values.now ≡ values_after (length values.now) trail.now }
@@ -100,10 +100,11 @@ fn learned_of(
     requires decision { IsLastDecision trail.now decision }
     requires denies { Denies clauses.now values.now marks.now }
     requires features { LeavesFeatures features (length values.now) trail.now decision marks.now }
-    requires first { IfSome first (λ place. place < length trail.now) }
     ensures learned { IsTaught clauses.now features (length values.now) trail.now decision result.clause result.target }
+    ensures watched { AreToWatch (length values.now) trail.now decision result.clause result.first result.second }
     ensures target { result.target ≤ decision }
 {
+    let first = last_marked(trail, marks, trail.len());
     let second = last_marked(trail, marks, decision);
     Learned {
         clause: denial(features, values, marks),
@@ -114,7 +115,7 @@ fn learned_of(
 }
 
 /// The clause that a conflict teaches: its falsified clause, resolved along the trail until features alone are left, and of those
-/// behind the last decision one.
+/// behind the last decision one; its two literals to watch; and where to go back to.
 ///
 /// The only error is want of memory.
 pub fn analyze(
@@ -132,10 +133,11 @@ pub fn analyze(
     requires conflict { IsFalsifiedAt clauses.now values.now conflict }
     requires decision { IsLastDecision trail.now decision }
     ensures learned { IfOk result (λ learned. IsTaught clauses.now features (length values.now) trail.now decision learned.clause learned.target) }
+    ensures watched { IfOk result (λ learned. AreToWatch (length values.now) trail.now decision learned.clause learned.first learned.second) }
     ensures target { IfOk result (λ learned. learned.target ≤ decision) }
 {
     let mut marks = conflict_marks(alloc, clauses, values, conflict)?;
-    let first = resolve_all(features, clauses, trail, decision, marks.as_mut_slice());
+    resolve_all(features, clauses, trail, decision, marks.as_mut_slice());
     let slice = marks.as_slice();
-    Ok(learned_of(features, clauses, values, trail, decision, slice, first))
+    Ok(learned_of(features, clauses, values, trail, decision, slice))
 }

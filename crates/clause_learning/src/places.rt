@@ -1,9 +1,9 @@
 //! Places on trails.
 
-ghost use Rattle.std.specs.Prelude.{◌≡◌, ◌<◌, ◌≤◌, ℕ, length, slice_get, IfSome, IfNone, Some, None};
+ghost use Rattle.std.specs.Prelude.{◌≡◌, ◌<◌, ◌≤◌, ◌⊎◌, ℕ, length, slice_get, IfSome, IfNone, Some, None};
 ghost use Rattle.unit_propagation.specs.declared.trail.Step.{Step as TrailStep};
 ghost use Rattle.clause_learning.specs.Decided.{AreBelowIn, AreCaused, IsLastDecision};
-ghost use Rattle.clause_learning.specs.Denials.{IsMarked};
+ghost use Rattle.clause_learning.specs.Denials.{AreUnmarked, IsLastMarked};
 
 use crate::marks::is_marked_at;
 use unit_propagation::Step;
@@ -23,11 +23,13 @@ pub fn last_decision(trail: &[Step]) -> Option<usize>
     None
 }
 
-/// The first decision between two places, or the second place.
+/// The place of the first decision from one place up to another, or that other place.
 pub(crate) fn first_decision(trail: &[Step], from: usize, to: usize) -> usize
     requires to { to ≤ length trail.now }
     requires from { from ≤ to }
+    ensures from { from ≤ result }
     ensures within { result ≤ to }
+    ensures decision { (s : TrailStep) → slice_get trail.now result ≡ Some s → (s.cause ≡ None) ⊎ (result ≡ to) }
     ensures first { (j : ℕ) (s : TrailStep) → j < result → slice_get trail.now j ≡ Some s → s.cause ≡ None → j < from }
 {
     let mut place = from;
@@ -44,7 +46,8 @@ pub(crate) fn first_decision(trail: &[Step], from: usize, to: usize) -> usize
 pub(crate) fn last_marked(trail: &[Step], marks: &[bool], to: usize) -> Option<usize>
     requires to { to ≤ length trail.now }
     requires below { AreBelowIn (length marks.now) trail.now }
-    ensures { IfSome result (λ place. (place < to) × ((s : TrailStep) → slice_get trail.now place ≡ Some s → IsMarked marks.now s.literal.var)) }
+    ensures some { IfSome result (IsLastMarked marks.now trail.now to) }
+    ensures none { IfNone result (AreUnmarked marks.now trail.now 0 to) }
 {
     let mut above = to;
     'steps: while above > 0 {
@@ -60,7 +63,9 @@ pub(crate) fn last_marked(trail: &[Step], marks: &[bool], to: usize) -> Option<u
 pub(crate) fn target_of(trail: &[Step], last: Option<usize>, decision: usize) -> usize
     requires to { decision ≤ length trail.now }
     requires last { IfSome last (λ place. place < decision) }
+    ensures behind { IfSome last (λ place. place < result) }
     ensures within { result ≤ decision }
+    ensures decision { (s : TrailStep) → slice_get trail.now result ≡ Some s → (s.cause ≡ None) ⊎ (result ≡ decision) }
     ensures first { (j : ℕ) (s : TrailStep) → j < result → slice_get trail.now j ≡ Some s → s.cause ≡ None → (place : ℕ) × (last ≡ Some place) × (j ≤ place) }
 {
     match last {

@@ -67,21 +67,20 @@ fn cause_to_resolve(
     trail[place].cause
 }
 
-/// Resolves from the end of the trail down, until one marked variable is left behind the last decision, and is a feature. Its place is the result.
+/// Resolves from the end of the trail down, until one marked variable is left behind the last decision, and is a feature.
 pub(crate) fn resolve_last(
     features: u8,
     clauses: &[Items<Literal>],
     trail: &[Step],
     decision: usize,
     marks: &mut [bool],
-) -> Option<usize>
+)
     requires trail { IsTrail clauses.now features (length marks.old) trail.now }
     requires decision { IsLastDecision trail.now decision }
     requires denies { Denies clauses.now (values_after (length marks.old) trail.now) marks.old }
     requires valued { (x : ℕ) → IsMarked marks.old x → IsValued (values_after (length marks.old) trail.now) x }
     ensures denies { Denies clauses.now (values_after (length marks.old) trail.now) marks.new }
     ensures one { LeavesOne features (length marks.old) trail.now decision marks.new }
-    ensures place { IfSome result (λ place. place < length trail.now) }
 {
     let mut place = trail.len();
     'steps: while place > decision {
@@ -91,10 +90,9 @@ pub(crate) fn resolve_last(
         }
         match cause_to_resolve(features, marks, trail, decision, place) {
             Some(cause) => resolve_at(features, clauses, trail, place, cause, marks),
-            None => return Some(place),
+            None => return,
         }
     }
-    None
 }
 
 /// The place of the clause to resolve with at a step whose variable is marked and no feature.

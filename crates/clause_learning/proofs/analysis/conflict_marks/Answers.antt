@@ -1,4 +1,4 @@
-use Rattle.std.proofs.Common.{length, arith, ◌∙◌, ap, subst, sym}
+use Rattle.std.proofs.Common.{length, ◌∙◌, ap, subst, sym}
 use Rattle.cfj_logic.specs.Logs.{AreBelow}
 use Rattle.std.proofs.lemmas.Option.{slice_get_within}
 use Rattle.unit_propagation.proofs.Members.{all_has}

@@ -1,4 +1,4 @@
-use Rattle.std.proofs.Common.{◌^◌, arith, sym, ◌∙◌, subst}
+use Rattle.std.proofs.Common.{arith, sym, ◌∙◌, subst}
 use Rattle.std.proofs.lemmas.Nat.{pow_pos}
 use Rattle.clause_learning.specs.Denials.{Gathers, marked_value}
 use Rattle.clause_learning.proofs.Choosing.{gathers_none, gathers_with, gathers_past, with_small}

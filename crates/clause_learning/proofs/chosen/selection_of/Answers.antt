@@ -1,4 +1,4 @@
-use Rattle.std.proofs.Common.{arith, true, refl, sym, ◌∙◌, ap, subst}
+use Rattle.std.proofs.Common.{arith, true, sym, ◌∙◌, ap, subst}
 use Rattle.cfj_logic.specs.Selections.{Chosen}
 use Rattle.cfj_logic.specs.UnitClauses.{value_of}
 use Rattle.clause_learning.specs.Denials.{Gathers}

@@ -1,4 +1,4 @@
-use Rattle.std.proofs.Common.{◌≡◌, ◌+◌, ◌-◌, ◌<◌, length, arith, sym, ◌∙◌, subst}
+use Rattle.std.proofs.Common.{◌≡◌, ◌+◌, ◌-◌, length, arith, sym, subst}
 use Rattle.unit_propagation.specs.Trails.{values_after}
 use Rattle.clause_learning.specs.Decided.{AreBelowIn}
 use Rattle.clause_learning.specs.Denials.{Denies, Resolves}

@@ -1,2 +1,4 @@
 mod Places
+mod Refusing
 mod Slots
+mod Stays

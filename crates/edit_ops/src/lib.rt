@@ -5,10 +5,14 @@
 //! first two questions; none of its tests takes memory.
 #![tactic(auto)]
 
+mod classes;
 mod found;
 mod naming;
+mod refused;
 mod spot;
 
+pub use classes::{add_class, remove_class};
 pub use found::has_site;
 pub use naming::{finds, named};
+pub use refused::EditRefused;
 pub use spot::Spot;

@@ -1,3 +1,4 @@
+mod Changing
 mod Places
 mod Refusing
 mod Slots

@@ -1,12 +1,12 @@
 -- What refuses a new class.
-use Rattle.std.proofs.Common.{◌≡◌, ℕ, ◌+◌, ◌<◌, ◌≤◌, Bool, true, false, List, [], ◌∷◌, ◌++◌, length, nat_lt, nat_le, is_some, if◌then◌else◌, Option, Some, None, sum_by, refl, sym, ◌∙◌, ap, arith}
+use Rattle.std.proofs.Common.{◌≡◌, ◌+◌, ◌<◌, ◌≤◌, Bool, true, false, [], ◌∷◌, ◌++◌, length, nat_lt, nat_le, is_some, if◌then◌else◌, Option, Some, None, refl, ◌∙◌, ap, arith}
 use Rattle.std.proofs.lemmas.Bool.{lt-ltb, le-ltb, le-leb, lt-leb}
 use Rattle.std.proofs.lemmas.List.Sums.{sum_by-append, sum_by-cons}
 use Rattle.cfj_model.specs.LookUps.{declared}
 use Rattle.cfj_model.specs.ProductLines.{ProductLine, class_size, most_classes, most_size, size}
 use Rattle.cfj_model.specs.declared.class.Class.{Class}
 use Rattle.cfj_model.specs.declared.fault.LimitKind.TheVariants as limit
-use Rattle.edit_ops.specs.Changes.{class_added, class_refused, size_refused}
+use Rattle.edit_ops.specs.Changes.{class_refused, size_refused}
 use Rattle.edit_ops.specs.declared.refused.EditRefused.{EditRefused}
 use Rattle.edit_ops.specs.declared.refused.EditRefused.TheVariants.{Exists, Limit}
 
@@ -15,6 +15,12 @@ size_more line k =
     let sum = sum_by-append class_size line.classes (k ∷ []) in
     let one = sum_by-cons class_size k [] in
     omega (arith, sum, one)
+
+pub size_fine : (line : ProductLine) → nat_le (size line.classes) most_size ≡ true → size_refused line ≡ None
+size_fine line fits = ap (λ b. if b then None else Some (Limit limit.Size)) fits
+
+pub size_large : (line : ProductLine) → nat_le (size line.classes) most_size ≡ false → size_refused line ≡ Some (Limit limit.Size)
+size_large line large = ap (λ b. if b then None else Some (Limit limit.Size)) large
 
 module _ (k : Class) (line : ProductLine) where
   abbrev taken : Bool

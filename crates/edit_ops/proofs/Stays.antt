@@ -1,6 +1,6 @@
 -- What a project's type keeps stays where a class is added or goes.
-use Rattle.std.proofs.Common.{◌≡◌, ℕ, zero, suc, ◌+◌, ◌≤◌, Bool, true, false, not, ◌&&◌, ◌||◌, cond, List, [], ◌∷◌, ◌++◌, length, map, take, drop, filter, find, position, nat_lt, nat_le, is_some, Option, Some, None, slice_get, sum_by, refl, sym, ◌∙◌, ap, subst, arith, add-one}
-use Rattle.std.specs.List.{list_all, list_any, position_or_len}
+use Rattle.std.proofs.Common.{◌≡◌, ℕ, zero, suc, ◌+◌, ◌≤◌, Bool, true, false, not, ◌&&◌, ◌||◌, cond, List, [], ◌∷◌, ◌++◌, length, map, take, drop, filter, position, nat_lt, nat_le, is_some, Some, None, refl, sym, ◌∙◌, ap, arith, add-one}
+use Rattle.std.specs.List.{list_all, position_or_len}
 use Rattle.std.specs.Str.{bytes_eq}
 use Rattle.std.proofs.lemmas.Bool.{and_parts, and_from, leb-true, le-leb, ltb-true}
 use Rattle.std.proofs.lemmas.Slice.Eq.{bytes_eq-Decides}
@@ -9,7 +9,7 @@ use Rattle.std.proofs.lemmas.List.Folds.{list_all-append}
 use Rattle.std.proofs.lemmas.List.Sums.{sum_by-cons}
 use Rattle.cfj_words.specs.Names.{is_among}
 use Rattle.cfj_model.specs.Coloring.{palette_of}
-use Rattle.cfj_model.specs.LookUps.{Table, declared, is_called, without}
+use Rattle.cfj_model.specs.LookUps.{Table, declared, is_called}
 use Rattle.cfj_model.specs.ProductLines.{ProductLine, IsProject, are_new, are_distinct, class_size, is_class, most_classes, most_size, size}
 use Rattle.cfj_model.specs.declared.class.Class.{Class}
 use Rattle.edit_ops.specs.Changes.{class_added, class_removed}
@@ -22,7 +22,7 @@ name_of k = k.name
 not_among : (b : Bool) → b ≡ false → not b ≡ true
 not_among b h = ap not h
 
-not_true : (b : Bool) → not b ≡ true → b ≡ false
+pub not_true : (b : Bool) → not b ≡ true → b ≡ false
 not_true true h = sym h
 not_true false h = refl
 
@@ -89,7 +89,7 @@ or_parts false b h = (refl, h)
 or_both : (a b : Bool) → a ≡ false → b ≡ false → (a || b) ≡ false
 or_both a b here there = ap (λ c. c || b) here ∙ there
 
-among_last : (names : List (List ℕ)) (m n : List ℕ) → is_among (names ++ m ∷ []) n ≡ (is_among names n || (bytes_eq m n || false))
+pub among_last : (names : List (List ℕ)) (m n : List ℕ) → is_among (names ++ m ∷ []) n ≡ (is_among names n || (bytes_eq m n || false))
 among_last [] m n = refl
 among_last (x ∷ names) m n = ap (λ c. bytes_eq x n || c) (among_last names m n) ∙ or_assoc (bytes_eq x n) (is_among names n) (bytes_eq m n || false)
   where
@@ -186,6 +186,10 @@ none_behind c before (k ∷ p) taken new =
     differs false e apart = refl
     differs true e apart = absurd (cc (sym taken ∙ ap (is_among before) (sym ((bytes_eq-Decides k.name c).0 e)) ∙ apart))
 
+pub or_true : (b : Bool) → (b || true) ≡ true
+or_true true = refl
+or_true false = refl
+
 pub removed_at : (c : List ℕ) (before : List (List ℕ)) (p : Table) (place : ℕ) → are_new before (map (λ k. k.name) p) ≡ true → position_or_len (is_called c) p ≡ place
     → filter (λ k. not (is_called c k)) p ≡ take place p ++ drop (suc place) p
 removed_at c before [] zero new at = refl
@@ -194,10 +198,6 @@ removed_at c before (k ∷ p) place new at =
     let parts = and_parts (not (is_among before k.name)) (are_new (before ++ k.name ∷ []) (map (λ x. x.name) p)) new in
     by parts.1 (λ n. removed_at c (before ++ k.name ∷ []) p n parts.1) (bytes_eq k.name c) refl place at
   where
-    or_true : (b : Bool) → (b || true) ≡ true
-    or_true true = refl
-    or_true false = refl
-
     by : are_new (before ++ k.name ∷ []) (map (λ x. x.name) p) ≡ true
         → ((n : ℕ) → position_or_len (is_called c) p ≡ n → filter (λ x. not (is_called c x)) p ≡ take n p ++ drop (suc n) p)
         → (b : Bool) → bytes_eq k.name c ≡ b → (n : ℕ) → cond (not b) (1 + position_or_len (is_called c) p) 0 ≡ n

@@ -1,5 +1,5 @@
 -- What edits make of a project, and what refuses them: the cases that change classes as a whole.
-use Rattle.std.specs.Prelude.{ℕ, Bool, nat_le, nat_lt, List, [], ◌∷◌, ◌++◌, length, map, is_some, if◌then◌else◌, Option, Some, None}
+use Rattle.std.specs.Prelude.{ℕ, nat_le, nat_lt, List, [], ◌∷◌, ◌++◌, length, map, is_some, if◌then◌else◌, Option, Some, None}
 use Rattle.cfj_model.specs.LookUps.{Table, declared, is_called, without}
 use Rattle.cfj_model.specs.ProductLines.{ProductLine, most_classes, most_size, size}
 use Rattle.cfj_model.specs.declared.class.Class.{Class}

@@ -1,6 +1,5 @@
-use Rattle.std.proofs.Common.{◌≡◌, ◌++◌, ◌∷◌, [], Bool, Some, None, inr, is_some, sym, ◌∙◌, ap, arith}
+use Rattle.std.proofs.Common.{◌≡◌, Some, inr, is_some, sym, ◌∙◌, ap, arith}
 use Rattle.cfj_model.specs.LookUps.{is_called}
-use Rattle.cfj_model.specs.ProductLines.{most_classes, most_size, size}
 use Rattle.cfj_model.specs.declared.fault.LimitKind.TheVariants as limit
 use Rattle.edit_ops.specs.declared.refused.EditRefused.TheVariants.{Exists, Limit}
 use Rattle.edit_ops.proofs.Places.{found_both}

@@ -1,0 +1,5 @@
+mod Changing
+mod Places
+mod Refusing
+mod Slots
+mod Stays

@@ -1,11 +1,11 @@
 -- Where all variables are features, they settle the clauses.
 use Rattle.std.proofs.lemmas.List.{take_more}
 use Rattle.std.proofs.lemmas.Option.{slice_get_within, get_or_from_slice_get}
-use Rattle.std.proofs.Common.{◌≡◌, ℕ, zero, suc, ◌+◌, ◌<◌, ◌≤◌, ◌⊎◌, inl, inr, Bool, not, List, [], ◌∷◌, ◌++◌, length, take, slice_get, Some, refl, sym, ◌∙◌, ap, subst, arith}
+use Rattle.std.proofs.Common.{◌≡◌, ℕ, zero, suc, ◌+◌, ◌<◌, ◌⊎◌, inl, inr, List, [], ◌∷◌, ◌++◌, take, slice_get, Some, refl, sym, ◌∙◌, ap, subst, arith}
 use Rattle.std.specs.Prelude.{All}
 use Rattle.cfj_logic.specs.declared.clauses.Literal.{Literal}
 use Rattle.cfj_logic.specs.declared.clauses.Clauses.{Clauses}
-use Rattle.cfj_logic.specs.Selections.{Chosen, is_on, choices}
+use Rattle.cfj_logic.specs.Selections.{is_on, choices}
 use Rattle.cfj_words.specs.Lists.{Has}
 use Rattle.cfj_logic.specs.UnitClauses.{value_of, here, Leads}
 use Rattle.cfj_logic.specs.Logs.{Assignment, AreBelow, IsTrueIn, IsModel, fixed, Completes, AreSettledByFeatures}

@@ -1,6 +1,7 @@
 //! The problem of a text.
 
-ghost use Rattle.std.specs.Prelude.{◌≡◌, ◌≤◌, All, IfOk, IfSome, IsTrue, length};
+ghost use Rattle.std.specs.Prelude.{◌≡◌, ◌↔◌, ◌≤◌, [], All, IfOk, IfSome, IfNone, IsTrue, min};
+ghost use Rattle.dimacs_solver.specs.Numbers as spec;
 ghost use Rattle.cfj_logic.specs.Logs.{AreBelow, AreWellFormed};
 
 use crate::text::read_text;
@@ -14,22 +15,30 @@ use std::mem;
 const BUDGET: u32 = 20_000;
 
 /// The literal of a number that isn't 0.
-fn literal_of(number: i64) -> Literal {
+fn literal_of(number: i64) -> Literal
+    ensures { result ≡ spec.literal_of number }
+{
     Literal {
         var: number.unsigned_abs().saturating_sub(1),
         on: number > 0,
     }
 }
 
+/// Whether the number ends a clause.
+fn is_end(number: i64) -> bool
+    ensures { result ≡ spec.is_end number }
+{
+    number == 0
+}
+
 /// The clauses of the numbers, in which a 0 stands behind each.
-pub(crate) fn clauses_of(
-    alloc: Global,
-    numbers: &[i64],
-) -> Result<Vec<Items<Literal>>, AllocError> {
+pub(crate) fn clauses_of(alloc: Global, numbers: &[i64]) -> Result<Vec<Items<Literal>>, AllocError>
+    ensures { IfOk result (λ list. list.items ≡ spec.clauses_from [] numbers.now) }
+{
     let mut list = Vec::new(alloc);
     let mut clause = Vec::new(alloc);
     for number in numbers {
-        if *number == 0 {
+        if is_end(*number) {
             list.push(Items::of(mem::replace(&mut clause, Vec::new(alloc))))?;
         } else {
             clause.push(literal_of(*number))?;
@@ -40,7 +49,7 @@ pub(crate) fn clauses_of(
 
 /// Whether all variables of a clause are below a number.
 fn is_below(vars: u64, clause: &[Literal]) -> bool
-    ensures { IsTrue result → AreBelow vars clause.now }
+    ensures { IsTrue result ↔ AreBelow vars clause.now }
 {
     for literal in clause {
         if literal.var >= vars {
@@ -52,7 +61,7 @@ fn is_below(vars: u64, clause: &[Literal]) -> bool
 
 /// Whether all variables of some clauses are below a number.
 fn are_below(vars: u64, list: &[Items<Literal>]) -> bool
-    ensures { IsTrue result → All (AreBelow vars) list.now }
+    ensures { IsTrue result ↔ All (AreBelow vars) list.now }
 {
     for clause in list {
         if !is_below(vars, clause.slice()) {
@@ -64,7 +73,9 @@ fn are_below(vars: u64, list: &[Items<Literal>]) -> bool
 
 /// The clauses as a problem over so many variables, the first of which are the features; nothing where a clause has another.
 fn problem_over(vars: u64, list: Vec<Items<Literal>>) -> Option<Clauses>
-    ensures { IfSome result (λ clauses. AreWellFormed clauses) }
+    ensures formed { IfSome result (λ clauses. AreWellFormed clauses) }
+    ensures problem { IfSome result (λ clauses. clauses ≡ record { features = min vars 128; vars = vars; list = list.items }) }
+    ensures none { IfNone result (All (AreBelow vars) list.items → ⊥) }
 {
     if !are_below(vars, list.as_slice()) {
         return None;

@@ -12,7 +12,7 @@ loop-clause-preserved c =
     let i = c.loop-clause.clause-index in
     let x = c.clause-item.result in
     all_next (AreBelow c.args.vars) xs i x (slice_get_read xs (length xs) i x refl (omega arith) c.clause-item.is)
-    (subst (AreBelow c.args.vars) c.slice.ensures (c.is_below.ensures c.if-not-is_below.false)) c.loop-clause.invariant
+    (subst (AreBelow c.args.vars) c.slice.ensures (c.is_below.ensures.0 c.if-not-is_below.false)) c.loop-clause.invariant
 
 pub returns : goal.returns
-returns c = λ _. subst (All (AreBelow c.args.vars)) (all_taken c.args.list.now c.loop-clause.clause-index (omega arith)) c.loop-clause.invariant
+returns c = (λ _. subst (All (AreBelow c.args.vars)) (all_taken c.args.list.now c.loop-clause.clause-index (omega arith)) c.loop-clause.invariant, λ _. refl)

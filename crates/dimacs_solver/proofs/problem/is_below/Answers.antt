@@ -1,4 +1,4 @@
-use Rattle.std.proofs.Common.{◌<◌, arith, false, get_or, subst}
+use Rattle.std.proofs.Common.{◌<◌, arith, false, get_or, refl, subst}
 use Rattle.std.proofs.lemmas.Option.{slice_get-get_or}
 use Rattle.cfj_logic.specs.declared.clauses.Literal.{Literal}
 use Rattle.cfj_logic.specs.Logs.{AreBelow}
@@ -16,4 +16,4 @@ loop-literal-preserved c =
     all_next (λ (l : Literal). l.var < c.args.vars) xs i (get_or xs i none) (slice_get-get_or xs i none (omega arith)) (omega (arith, c.if-literal-vars.false)) c.loop-literal.invariant
 
 pub returns : goal.returns
-returns c = λ _. subst (AreBelow c.args.vars) (all_taken c.args.clause.now c.loop-literal.literal-index (omega arith)) c.loop-literal.invariant
+returns c = (λ _. subst (AreBelow c.args.vars) (all_taken c.args.clause.now c.loop-literal.literal-index (omega arith)) c.loop-literal.invariant, λ _. refl)

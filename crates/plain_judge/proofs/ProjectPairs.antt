@@ -62,14 +62,14 @@ rules_with v (w ∷ ws) = go (nat_lt (rank w.0) (rank v.0)) (rules_with v ws)
     go true ih = ap (λ rs. w.0 ∷ rs) ih
     go false ih = refl
 
-judged_pairs : (s : Site) (vs : List Ruling) → map pair_of (judged_at s vs) ≡ pairs_at s (map (λ v. v.0) vs)
+pub judged_pairs : (s : Site) (vs : List Ruling) → map pair_of (judged_at s vs) ≡ pairs_at s (map (λ v. v.0) vs)
 judged_pairs s [] = refl
 judged_pairs s (v ∷ vs) = ap (λ ps. (s, v.0) ∷ ps) (judged_pairs s vs)
 
-pairs_append : (js ks : List RuleAt) (ps qs : List Pair) → map pair_of js ≡ ps → map pair_of ks ≡ qs → map pair_of (js ++ ks) ≡ ps ++ qs
+pub pairs_append : (js ks : List RuleAt) (ps qs : List Pair) → map pair_of js ≡ ps → map pair_of ks ≡ qs → map pair_of (js ++ ks) ≡ ps ++ qs
 pairs_append js ks ps qs first then = map-append pair_of js ks ∙ ap (λ z. z ++ map pair_of ks) first ∙ ap (λ z. ps ++ z) then
 
-item_pairs : {A : Type 0} (of : A → List RuleAt) (pairs : A → List Pair) → ((x : A) → map pair_of (of x) ≡ pairs x) → (xs : List A) → map pair_of (flat_map of xs) ≡ flat_map pairs xs
+pub item_pairs : {A : Type 0} (of : A → List RuleAt) (pairs : A → List Pair) → ((x : A) → map pair_of (of x) ≡ pairs x) → (xs : List A) → map pair_of (flat_map of xs) ≡ flat_map pairs xs
 item_pairs of pairs each [] = refl
 item_pairs of pairs each (x ∷ xs) = pairs_append (of x) (flat_map of xs) (pairs x) (flat_map pairs xs) (each x) (item_pairs of pairs each xs)
 
@@ -157,7 +157,7 @@ module _ (at : ℕ → Site) (p : Table) (g : Environment) where
 -- ---- declarations
 
 -- of items that are judged with those before them, where the pairs are those of the items alone
-placed_pairs : {A : Type 0} (of : Placed A → List RuleAt) (pairs : A → List Pair) → ((q : Placed A) → map pair_of (of q) ≡ pairs q.item)
+pub placed_pairs : {A : Type 0} (of : Placed A → List RuleAt) (pairs : A → List Pair) → ((q : Placed A) → map pair_of (of q) ≡ pairs q.item)
     → (before xs : List A) → map pair_of (flat_map of (placed_behind before xs)) ≡ flat_map pairs xs
 placed_pairs of pairs each before [] = refl
 placed_pairs {A = A} of pairs each before (x ∷ xs) =
@@ -166,13 +166,13 @@ placed_pairs {A = A} of pairs each before (x ∷ xs) =
     (placed_pairs of pairs each (before ++ x ∷ []) xs)
 
 module _ (p : Table) (k : Class) where
-  ctor_listed : map pair_of (judged_ctor p k) ≡ ctor_pairs k
+  pub ctor_listed : map pair_of (judged_ctor p k) ≡ ctor_pairs k
   ctor_listed =
       let s = site.Ctor k.name in
       ap (λ z. (s, K4) ∷ ((s, K5) ∷ ((s, K6) ∷ z)))
       (item_pairs (λ (q : Param). judged_at (site.CtorParam k.name q.slot) ((K1, not (is_known p q.of)) ∷ [])) (ctor_param_pairs k) (λ q. refl) k.ctor.params)
 
-  method_listed : (q : Placed Method) → map pair_of (judged_method p k q) ≡ method_pairs k q.item
+  pub method_listed : (q : Placed Method) → map pair_of (judged_method p k q) ≡ method_pairs k q.item
   method_listed q =
       let m : Method = q.item in
       let s = site.Method k.name m.name m.alt in

@@ -1,2 +1,6 @@
 pub mod Diagnostics
+pub mod Facts
 pub mod Findings
+pub mod Judgements
+pub mod Reach
+pub mod Units

@@ -7,7 +7,9 @@
 mod entry;
 mod findings;
 mod laws;
+mod unit;
 
 pub use entry::{Entry, Verdict};
 pub use findings::findings_of;
 pub use laws::{decides_few_features, format_changes_nothing};
+pub use unit::{Key, Unit};

@@ -1,0 +1,16 @@
+pub mod Agreement
+pub mod Bodies
+pub mod BodyNames
+pub mod ByUnit
+pub mod ClassLaw
+pub mod ClassUnits
+pub mod Exact
+pub mod Items
+pub mod MethodLaw
+pub mod Methods
+pub mod SeenChains
+pub mod SeenVariants
+pub mod Together
+pub mod Told
+pub mod UnitLaws
+pub mod UnitPairs

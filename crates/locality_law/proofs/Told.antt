@@ -1,0 +1,90 @@
+-- What a project keeps, and what equal facts tell of two projects.
+use Rattle.std.proofs.Common.{◌≡◌, ◌⊎◌, inl, inr, ℕ, Bool, true, false, not, List, [], ◌∷◌, ◌++◌, map, Option, None, Some, option_map, refl, sym, ◌∙◌, ap, subst}
+use Rattle.std.specs.List.{list_all}
+use Rattle.std.specs.Str.{bytes_eq}
+use Rattle.std.proofs.lemmas.Bool.{and_parts, not-true}
+use Rattle.cfj_model.specs.Coloring.{Palette, are_known, palette_of}
+use Rattle.cfj_model.specs.LookUps.{Table, declared, is_called}
+use Rattle.cfj_model.specs.Members.{method_alts_rise}
+use Rattle.cfj_model.specs.ProductLines.{IsProject, ProductLine, are_fields, are_methods, is_class, is_ctor, is_method, most_methods, object}
+use Rattle.cfj_model.specs.declared.class.Class.{Class}
+use Rattle.cfj_model.specs.declared.class.Method.{Method}
+use Rattle.cfj_words.specs.Lists.{Has}
+use Rattle.cfj_words.specs.Names.{is_short_identifier}
+use Rattle.plain_fj.proofs.Chains.{declared_has}
+use Rattle.plain_fj.proofs.Members.{all_has, differs_name, name_differs, name_is, none_find}
+use Rattle.unit_facts.specs.Facts.{Contents, Head, Signature, absent, head_at, head_is, head_of, if_any, if_some, signatures_are, signatures_at, signatures_in}
+use Rattle.unit_facts.specs.Reach.{IsAbove, IsNotObject, MethodReaches, Reaches, signature_types, types_of_fields}
+
+-- ---- what a project keeps
+
+-- a class isn't called `Object`, and the alts of its methods rise
+pub record IsKept (k : Class) : Type 0 where
+  pub other : bytes_eq k.name object ≡ false
+  pub rise : method_alts_rise k.methods ≡ true
+
+class_kept : (palette : Palette) (k : Class) → is_class palette k ≡ true → IsKept k
+unfolding is_class
+class_kept palette k e =
+    let a = and_parts _ (are_methods palette k.methods) e in
+    let b = and_parts _ (is_ctor palette k.ctor) a.0 in
+    let c = and_parts _ (are_fields palette k.fields) b.0 in
+    let d = and_parts _ (is_short_identifier k.parent) c.0 in
+    let f = and_parts _ (are_known palette k.colors) d.0 in
+    let g = and_parts _ (not (bytes_eq k.name object)) f.0 in
+    let h = and_parts _ (list_all (is_method palette) k.methods) a.1 in
+    let i = and_parts _ (method_alts_rise k.methods) h.0 in
+    record { other = not-true (bytes_eq k.name object) g.1; rise = i.1 }
+
+pub kept_class : (q : ProductLine) → IsProject q → (k : Class) → Has q.classes k → IsKept k
+kept_class q project k h = class_kept (palette_of q.model) k (all_has (is_class (palette_of q.model)) q.classes project.each_class k h)
+
+pub kept_declared : (q : ProductLine) → IsProject q → (n : List ℕ) (k : Class) → declared q.classes n ≡ Some k → IsKept k
+kept_declared q project n k e = kept_class q project k (declared_has q.classes n k e)
+
+-- `Object` has no head
+pub no_object : (q : ProductLine) → IsProject q → declared q.classes object ≡ None
+no_object q project = none_find (is_called object) q.classes (λ k h. (kept_class q project k h).other)
+
+-- ---- contents are told apart
+
+pub some_told : {A : Type 0} (holds : A → Contents) → ((x y : A) → holds x ≡ holds y → x ≡ y) → ((x : A) → holds x ≡ absent → ⊥) → (a b : Option A) → if_some holds a ≡ if_some holds b → a ≡ b
+some_told holds same never None None e = refl
+some_told holds same never None (Some y) e = absurd (never y (sym e))
+some_told holds same never (Some x) None e = absurd (never x e)
+some_told holds same never (Some x) (Some y) e = ap (λ w. Some w) (same x y e)
+
+pub head_told : (a b : Option Head) → if_some head_is a ≡ if_some head_is b → a ≡ b
+head_told a b e = some_told head_is (λ x y s. cc s) (λ x s. let none : ⊥ = cc s in none) a b e
+
+pub any_told : (xs ys : List Signature) → if_any xs ≡ if_any ys → xs ≡ ys
+any_told [] [] e = refl
+any_told [] (y ∷ ys) e = absurd (let none : ⊥ = cc e in none)
+any_told (x ∷ xs) [] e = absurd (let none : ⊥ = cc e in none)
+any_told (x ∷ xs) (y ∷ ys) e = cc e
+
+-- ---- the same reach
+
+module _ (p q : Table) (starts asked : List (List ℕ)) (heads : (n : List ℕ) → Reaches p starts asked n → head_at p n ≡ head_at q n)
+    (signatures : (n m : List ℕ) → Reaches p starts asked n → Has asked m → signatures_at p n m ≡ signatures_at q n m) where
+  pub reach_there : (n : List ℕ) → Reaches p starts asked n → Reaches q starts asked n
+  reach_there _ (Reaches.start n h) = Reaches.start n h
+  reach_there _ (Reaches.superclass n h r e) = Reaches.superclass n h (reach_there n r) (sym (heads n r) ∙ e)
+  reach_there _ (Reaches.field_type n t h r e has) = Reaches.field_type n t h (reach_there n r) (sym (heads n r) ∙ e) has
+  reach_there _ (Reaches.method_type n t m r here has) = Reaches.method_type n t m (reach_there n r) here (subst (λ gs. Has (signature_types gs) t) (signatures n m r here) has)
+
+  pub reach_back : (n : List ℕ) → Reaches q starts asked n → Reaches p starts asked n
+  reach_back _ (Reaches.start n h) = Reaches.start n h
+  reach_back _ (Reaches.superclass n h r e) = let s = reach_back n r in Reaches.superclass n h s (heads n s ∙ e)
+  reach_back _ (Reaches.field_type n t h r e has) = let s = reach_back n r in Reaches.field_type n t h s (heads n s ∙ e) has
+  reach_back _ (Reaches.method_type n t m r here has) =
+      let s = reach_back n r in Reaches.method_type n t m s here (subst (λ gs. Has (signature_types gs) t) (sym (signatures n m s here)) has)
+
+module _ (p q : Table) (c : List ℕ) (heads : (n : List ℕ) → IsAbove p c n → head_at p n ≡ head_at q n) where
+  pub above_there : (n : List ℕ) → IsAbove p c n → IsAbove q c n
+  above_there _ IsAbove.itself = IsAbove.itself
+  above_there _ (IsAbove.further n h r e) = IsAbove.further n h (above_there n r) (sym (heads n r) ∙ e)
+
+  pub above_back : (n : List ℕ) → IsAbove q c n → IsAbove p c n
+  above_back _ IsAbove.itself = IsAbove.itself
+  above_back _ (IsAbove.further n h r e) = let s = above_back n r in IsAbove.further n h s (heads n s ∙ e)

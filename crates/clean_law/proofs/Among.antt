@@ -3,7 +3,7 @@ use Rattle.std.proofs.Common.{◌≡◌, ◌⊎◌, inl, inr, Bool, true, false,
 use Rattle.std.specs.List.{filter, flat_map}
 use Rattle.cfj_words.specs.Lists.{Has}
 use Rattle.feature_views.proofs.Kept.{kept}
-use Rattle.plain_fj.proofs.Members.{has_either, has_left, has_right}
+use Rattle.class_table.proofs.Members.{has_either, has_left, has_right}
 
 -- each item of the first list is one of the second
 abbrev pub AreAmong : {A : Type 0} → List A → List A → Type 0

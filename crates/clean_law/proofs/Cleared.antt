@@ -12,7 +12,7 @@ use Rattle.unit_facts.specs.Diagnostics.{AreExact, BreaksIn, IsChecked, IsNever,
 use Rattle.unit_facts.specs.declared.entry.Verdict.{Verdict}
 use Rattle.feature_views.proofs.Variants.{variant_is_project}
 use Rattle.plain_fj.proofs.Law.{well_typed_project}
-use Rattle.plain_fj.proofs.Members.{has_cases, has_map, has_none, none_find}
+use Rattle.class_table.proofs.Members.{has_cases, has_map, has_none, none_find}
 use Rattle.clean_law.proofs.VariantPairs.{variant_among}
 
 -- a pair without an entry breaks under no valid selection

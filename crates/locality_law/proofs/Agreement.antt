@@ -11,7 +11,7 @@ use Rattle.cfj_model.specs.declared.class.Class.{Class}
 use Rattle.cfj_model.specs.declared.class.Field.{Field}
 use Rattle.cfj_model.specs.declared.class.Method.{Method}
 use Rattle.cfj_words.specs.Lists.{Has}
-use Rattle.plain_fj.proofs.Members.{filter_has, find_has, has_filter, has_left, has_map, is_name, mapped}
+use Rattle.class_table.proofs.Members.{filter_has, find_has, has_filter, has_left, has_map, is_name, mapped}
 use Rattle.unit_facts.specs.Facts.{Head, Signature, Taken, head_at, head_of, signature_of, signatures_at, signatures_in}
 use Rattle.unit_facts.specs.Reach.{signature_types, types_of_fields}
 use Rattle.locality_law.proofs.Bodies.{Agree, If}

@@ -23,8 +23,8 @@ use Rattle.cfj_model.specs.declared.site.Site.{Site}
 use Rattle.cfj_model.specs.declared.site.Site.TheVariants as site
 use Rattle.cfj_words.specs.Lists.{Has}
 use Rattle.feature_views.proofs.Variants.{variant_is_project}
-use Rattle.plain_fj.proofs.Chains.{declared_has, declared_name}
-use Rattle.plain_fj.proofs.Members.{find_has, has_left, has_right, is_name, name_is}
+use Rattle.class_table.proofs.Without.{declared_has, declared_name}
+use Rattle.class_table.proofs.Members.{find_has, has_left, has_right, is_name, name_is}
 use Rattle.unit_facts.specs.Diagnostics.{BreaksIn}
 use Rattle.unit_facts.specs.Units.{class_units, is_declaration, judged_own, method_in, of_some, unit_judged, unit_of, unit_pairs, units_of}
 use Rattle.unit_facts.specs.declared.unit.Unit.{Unit}

@@ -11,8 +11,8 @@ use Rattle.cfj_model.specs.declared.class.Class.{Class}
 use Rattle.cfj_model.specs.declared.class.Field.{Field}
 use Rattle.cfj_model.specs.declared.class.Param.{Param}
 use Rattle.cfj_words.specs.Lists.{Has}
-use Rattle.plain_fj.proofs.Chains.{declared_name}
-use Rattle.plain_fj.proofs.Members.{filter_has, has_cases, has_either, has_left, has_map, has_right, mapped, name_is}
+use Rattle.class_table.proofs.Without.{declared_name}
+use Rattle.class_table.proofs.Members.{filter_has, has_cases, has_either, has_left, has_map, has_right, mapped, name_is}
 use Rattle.unit_facts.specs.Facts.{Contents, Head, class_is, fact, head_at, head_of, own_at, own_of}
 use Rattle.unit_facts.specs.Judgements.{IsSameFor, SameFacts}
 use Rattle.unit_facts.specs.Reach.{ClassReaches, InClassReach, InReach, IsAbove, types_of_fields}

@@ -15,7 +15,7 @@ use Rattle.cfj_model.specs.declared.class.Param.{Param}
 use Rattle.cfj_model.specs.declared.site.Rule.TheVariants.{K1, K2, K3, K4, K5, K6, K9}
 use Rattle.cfj_model.specs.declared.site.Site.TheVariants as site
 use Rattle.cfj_words.specs.Lists.{Has}
-use Rattle.plain_fj.proofs.Members.{has_left, has_map, has_rest, has_right}
+use Rattle.class_table.proofs.Members.{has_left, has_map, has_rest, has_right}
 use Rattle.unit_facts.specs.Facts.{own_at, own_of}
 use Rattle.unit_facts.specs.Reach.{types_of_fields}
 use Rattle.unit_facts.specs.Units.{judged_own, of_some, unit_judged}

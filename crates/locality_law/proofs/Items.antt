@@ -9,7 +9,7 @@ use Rattle.std.proofs.lemmas.List.Folds.{list_any-append}
 use Rattle.cfj_model.specs.ProductLines.{are_new, are_distinct}
 use Rattle.cfj_words.specs.Lists.{Has}
 use Rattle.cfj_words.specs.Names.{is_among}
-use Rattle.plain_fj.proofs.Members.{differs_back, has_cases, has_either, has_left, has_map, has_none, has_rest, has_right, name_is, none_find}
+use Rattle.class_table.proofs.Members.{differs_back, has_cases, has_either, has_left, has_map, has_none, has_rest, has_right, name_is, none_find}
 
 -- ---- of each item
 

@@ -21,8 +21,8 @@ use Rattle.cfj_model.specs.declared.site.Rule.TheVariants.{K1, K7, K8, K9}
 use Rattle.cfj_model.specs.declared.site.Site.TheVariants as site
 use Rattle.cfj_words.specs.Lists.{Has}
 use Rattle.cfj_words.specs.Names.{is_among}
-use Rattle.plain_fj.proofs.Chains.{declared_name}
-use Rattle.plain_fj.proofs.Members.{all_has, find_has, has_map, is_name, mapped, name_is, none_find}
+use Rattle.class_table.proofs.Without.{declared_name}
+use Rattle.class_table.proofs.Members.{all_has, find_has, has_map, is_name, mapped, name_is, none_find}
 use Rattle.unit_facts.specs.Facts.{method_at, signature_of, signatures_of}
 use Rattle.unit_facts.specs.Reach.{methods_called_by}
 use Rattle.unit_facts.specs.Units.{is_declaration, method_in, of_some, unit_judged}

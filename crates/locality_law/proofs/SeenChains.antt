@@ -7,8 +7,8 @@ use Rattle.cfj_model.specs.declared.class.Class.{Class}
 use Rattle.cfj_model.specs.Typing.{param_types}
 use Rattle.cfj_model.specs.declared.class.Field.{Field}
 use Rattle.cfj_model.specs.declared.class.Method.{Method}
-use Rattle.plain_fj.proofs.Chains.{others, taken}
-use Rattle.plain_fj.proofs.Members.{names_tell, unlike}
+use Rattle.class_table.proofs.Without.{others, taken}
+use Rattle.class_table.proofs.Members.{names_tell, unlike}
 use Rattle.locality_law.proofs.Items.{Each}
 
 -- ---- tables without a class

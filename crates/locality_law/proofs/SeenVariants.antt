@@ -12,7 +12,7 @@ use Rattle.cfj_model.specs.Typing.{param_types}
 use Rattle.cfj_model.specs.declared.class.Class.{Class}
 use Rattle.cfj_model.specs.declared.class.Method.{Method}
 use Rattle.cfj_model.specs.declared.class.Param.{Param}
-use Rattle.plain_fj.proofs.Chains.{declared_name}
+use Rattle.class_table.proofs.Without.{declared_name}
 use Rattle.unit_facts.specs.Facts.{Head, Signature, Taken, head_at, head_of, signature_of, signatures_at, signatures_in, signatures_of, taken_of}
 use Rattle.locality_law.proofs.Items.{distinct_alone, find_kept, left_of}
 use Rattle.locality_law.proofs.SeenChains.{ClassSeen, HeadSeen, SigSeen, class_seen, head_seen, sig_seen}

@@ -11,8 +11,8 @@ use Rattle.cfj_model.specs.declared.class.Class.{Class}
 use Rattle.cfj_model.specs.declared.class.Method.{Method}
 use Rattle.cfj_words.specs.Lists.{Has}
 use Rattle.cfj_words.specs.Names.{is_short_identifier}
-use Rattle.plain_fj.proofs.Chains.{declared_has}
-use Rattle.plain_fj.proofs.Members.{all_has, differs_name, name_differs, name_is, none_find}
+use Rattle.class_table.proofs.Without.{declared_has}
+use Rattle.class_table.proofs.Members.{all_has, differs_name, name_differs, name_is, none_find}
 use Rattle.unit_facts.specs.Facts.{Contents, Head, Signature, absent, head_at, head_is, head_of, if_any, if_some, signatures_are, signatures_at, signatures_in}
 use Rattle.unit_facts.specs.Reach.{IsAbove, IsNotObject, MethodReaches, Reaches, signature_types, types_of_fields}
 

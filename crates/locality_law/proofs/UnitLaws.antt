@@ -10,7 +10,7 @@ use Rattle.cfj_model.specs.ProductLines.{IsProject, ProductLine}
 use Rattle.cfj_model.specs.declared.class.Class.{Class}
 use Rattle.cfj_model.specs.declared.class.Method.{Method}
 use Rattle.cfj_words.specs.Lists.{Has}
-use Rattle.plain_fj.proofs.Members.{find_distinct, has_cases, has_none, is_name, unlike}
+use Rattle.class_table.proofs.Members.{find_distinct, has_cases, has_none, is_name, unlike}
 use Rattle.unit_facts.specs.Facts.{method_at, own_at, own_of}
 use Rattle.unit_facts.specs.Judgements.{IsLocal, IsSameFor, SameFacts}
 use Rattle.unit_facts.specs.Units.{IsUnit, class_units, is_declaration, method_in, units_of}

@@ -11,7 +11,7 @@ use Rattle.cfj_model.specs.declared.class.Field.{Field}
 use Rattle.cfj_model.specs.declared.class.Method.{Method}
 use Rattle.cfj_model.specs.declared.site.Rule.TheVariants.{K1, K2}
 use Rattle.cfj_model.specs.declared.site.Site.TheVariants as site
-use Rattle.plain_fj.proofs.Chains.{declared_name}
+use Rattle.class_table.proofs.Without.{declared_name}
 use Rattle.plain_judge.specs.Pairs.{ctor_pairs, field_pairs, method_pairs, pairs_at}
 use Rattle.plain_judge.proofs.ProjectPairs.{ctor_listed, method_listed, pairs_append, placed_pairs}
 use Rattle.unit_facts.specs.Facts.{method_at, own_at, own_of}

@@ -7,8 +7,8 @@ use Rattle.std.proofs.lemmas.List.{append_assoc, append-nil, map-append}
 use Rattle.cfj_words.specs.Names.{is_among}
 use Rattle.cfj_model.specs.Members.{Placed, placed, placed_behind, is_again, alts_rise}
 use Rattle.cfj_model.specs.ProductLines.{are_new, are_distinct}
+use Rattle.class_table.proofs.Members.{unlike, drop_get, all_has, has_map, differs_back}
 use Rattle.plain_fj.specs.Alternatives.{IsToldByAlt, behind}
-use Rattle.plain_fj.proofs.Members.{unlike, drop_get, all_has, has_map, differs_back}
 
 -- ---- items with those before them
 

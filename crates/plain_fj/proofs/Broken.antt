@@ -17,10 +17,10 @@ use Rattle.cfj_model.specs.declared.class.Param.{Param}
 use Rattle.cfj_model.specs.declared.site.Rule.{Rule}
 use Rattle.cfj_model.specs.declared.site.Site.{Site}
 use Rattle.cfj_model.specs.declared.site.Site.TheVariants as site
+use Rattle.class_table.specs.ByName.{seen}
+use Rattle.class_table.proofs.Members.{has_none, has_rest, has_map, has_filter, filter_has}
 use Rattle.plain_fj.specs.Breaking.{Adds, at_slots, breaking, broken, told}
-use Rattle.plain_fj.specs.ByName.{seen}
 use Rattle.plain_fj.specs.declared.site_break.Break.{Break}
-use Rattle.plain_fj.proofs.Members.{has_none, has_rest, has_map, has_filter, filter_has}
 use Rattle.plain_fj.proofs.TypeLists.{drop_at, drop_past, take_more}
 use Rattle.plain_fj.proofs.Law.{well_typed_project}
 

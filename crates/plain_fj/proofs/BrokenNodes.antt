@@ -17,10 +17,10 @@ use Rattle.cfj_model.specs.declared.site.Rule.TheVariants.{K1, E1, E2, E3, E4, E
 use Rattle.cfj_model.specs.declared.site.Site.{Site}
 use Rattle.cfj_model.specs.declared.site.Site.TheVariants as site
 use Rattle.cfj_model.proofs.ExprCases.{fold_var, fold_get, fold_call, fold_new, fold_cast, args_of, by_cases}
+use Rattle.class_table.proofs.Members.{unlike, not_true, mapped}
 use Rattle.plain_fj.specs.Breaking.{broken}
 use Rattle.plain_fj.specs.Found.{at_nodes, at_roots, environment, judged_in, nodes_in, slot_of, slot_step}
 use Rattle.plain_fj.specs.declared.body.Body.{Body}
-use Rattle.plain_fj.proofs.Members.{unlike, not_true, mapped}
 use Rattle.plain_fj.proofs.Typed.{judged_args, arg_types, types_where}
 use Rattle.plain_fj.proofs.Clear.{none_breaks, nodes_clear, clear}
 use Rattle.plain_fj.proofs.Broken.{broken_append}

@@ -14,7 +14,7 @@ use Rattle.cfj_model.specs.declared.expr.Expr.TheVariants as e
 use Rattle.cfj_model.specs.declared.site.Rule.{Rule}
 use Rattle.cfj_model.specs.declared.site.Rule.TheVariants.{E2, E3, E4, E5, E6, E7, E8}
 use Rattle.cfj_model.proofs.ExprCases.{fold_var, fold_get, fold_call, fold_new, fold_cast, Proved, args_of, by_cases}
-use Rattle.plain_fj.proofs.Members.{unlike, not_true}
+use Rattle.class_table.proofs.Members.{unlike, not_true}
 use Rattle.plain_fj.proofs.Typed.{type_of, judged_of, judged_args, arg_types, type_var, type_get, type_call, type_new, type_cast}
 
 -- none of these rules breaks

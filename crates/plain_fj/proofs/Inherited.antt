@@ -9,8 +9,9 @@ use Rattle.cfj_model.specs.Typing.{IsSubtype, s_refl, s_extends, s_trans, HasFie
 use Rattle.cfj_model.specs.declared.class.Class.{Class}
 use Rattle.cfj_model.specs.declared.class.Field.{Field}
 use Rattle.cfj_model.specs.declared.class.Method.{Method}
-use Rattle.plain_fj.proofs.Members.{unlike, not_true, name_is, is_name, find_has, none_find, has_none, has_cases, has_rest, has_left, has_right, has_either, find_distinct, differs_name, filter_all}
-use Rattle.plain_fj.proofs.Chains.{IsAcyclic, Walk, stop, go_on, chain_walks, chain_of_none, chain_of_class, declared_name, declared_has}
+use Rattle.class_table.proofs.Members.{unlike, not_true, name_is, is_name, find_has, none_find, has_none, has_cases, has_rest, has_left, has_right, has_either, find_distinct, differs_name, filter_all}
+use Rattle.class_table.proofs.Without.{declared_name, declared_has}
+use Rattle.plain_fj.proofs.Chains.{IsAcyclic, Walk, stop, go_on, chain_walks, chain_of_none, chain_of_class}
 
 -- What a class table has, both where it is well typed and where no rule breaks.
 pub record IsSound (p : Table) : Type 0 where

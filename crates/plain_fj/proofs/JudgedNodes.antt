@@ -12,6 +12,7 @@ use Rattle.cfj_model.specs.declared.class.Param.{Param}
 use Rattle.cfj_model.specs.declared.expr.Expr.{Expr}
 use Rattle.cfj_model.specs.declared.expr.Expr.TheVariants as e
 use Rattle.cfj_model.specs.declared.site.Rule.TheVariants.{K1, E1, E2, E8}
+use Rattle.class_table.proofs.Members.{not_true}
 use Rattle.plain_fj.specs.Breaking.{Adds, broken}
 use Rattle.plain_fj.specs.Found.{IsJudged, IsNameJudged, at_nodes, environment, nodes_in}
 use Rattle.plain_fj.specs.declared.body.Body.{Body}
@@ -19,7 +20,6 @@ use Rattle.plain_fj.specs.declared.site_break.Break.{Break}
 use Rattle.plain_fj.proofs.Broken.{adds_as, adds_none, adds_then, broken_append}
 use Rattle.plain_fj.proofs.BrokenNodes.{cast_pairs, get_pairs, one, pairs, type_in, typed_quiet, var_pairs}
 use Rattle.plain_fj.proofs.Typed.{cast_type, type_cast, type_get, type_var}
-use Rattle.plain_fj.proofs.Members.{not_true}
 
 -- ---- parts that are added
 

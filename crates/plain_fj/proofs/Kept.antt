@@ -10,7 +10,7 @@ use Rattle.cfj_model.specs.Judging.{are_same, takes_fields, extends_itself, is_n
 use Rattle.cfj_model.specs.declared.class.Class.{Class}
 use Rattle.cfj_model.specs.declared.class.Field.{Field}
 use Rattle.cfj_model.specs.declared.class.Method.{Method}
-use Rattle.plain_fj.proofs.Members.{has_all, all_has}
+use Rattle.class_table.proofs.Members.{has_all, all_has}
 use Rattle.plain_fj.proofs.Quiet.{body_type, are_known_params, method_keeps, field_keeps, fields_keep, ctor_keeps, methods_keep, class_keeps}
 
 -- what a class has where none of its rules breaks

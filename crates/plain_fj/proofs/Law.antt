@@ -16,9 +16,10 @@ use Rattle.cfj_model.specs.declared.class.Class.{Class}
 use Rattle.cfj_model.specs.declared.class.Field.{Field}
 use Rattle.cfj_model.specs.declared.class.Method.{Method}
 use Rattle.cfj_model.specs.declared.class.Param.{Param}
+use Rattle.class_table.proofs.Members.{not_true, name_is, is_name, differs_back, find_none, none_find, find_distinct, has_all, all_has, none_has, has_no, has_filter, filter_has}
+use Rattle.class_table.proofs.Without.{declared_name, declared_has}
 use Rattle.plain_fj.specs.Alternatives.{DoAltsRise}
-use Rattle.plain_fj.proofs.Members.{not_true, name_is, is_name, differs_back, find_none, none_find, find_distinct, has_all, all_has, none_has, has_no, has_filter, filter_has}
-use Rattle.plain_fj.proofs.Chains.{IsAcyclic, declared_name, declared_has, chain_has, above_in_chain, holds_subtype, subtype_holds, itself_found, itself_by_rules}
+use Rattle.plain_fj.proofs.Chains.{IsAcyclic, chain_has, above_in_chain, holds_subtype, subtype_holds, itself_found, itself_by_rules}
 use Rattle.plain_fj.proofs.Inherited.{IsSound, known_class, fields_are, are_fields, own_fields, method_is, is_method, ancestors_are}
 use Rattle.plain_fj.proofs.Typed.{HasKnownTypes, typed, derived}
 use Rattle.plain_fj.proofs.Clear.{names_known}

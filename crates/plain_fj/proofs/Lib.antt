@@ -1,4 +1,3 @@
-pub mod Members
 pub mod Alternatives
 pub mod Chains
 pub mod Inherited
@@ -9,9 +8,6 @@ pub mod Quiet
 pub mod Uses
 pub mod Kept
 pub mod Law
-pub mod ByNames
-pub mod Walking
-pub mod Nearest
 pub mod TypeLists
 pub mod Broken
 pub mod BrokenNodes

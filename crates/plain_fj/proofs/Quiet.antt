@@ -14,8 +14,8 @@ use Rattle.cfj_model.specs.declared.class.Param.{Param}
 use Rattle.cfj_model.specs.declared.site.Rule.TheVariants.{K1}
 use Rattle.cfj_model.specs.declared.site.Site.{Site}
 use Rattle.cfj_model.specs.declared.site.Site.TheVariants as site
+use Rattle.class_table.proofs.Members.{unlike, find_none, none_find, has_all, all_has, all_flat_map, all_same}
 use Rattle.plain_fj.proofs.Alternatives.{tested_apart}
-use Rattle.plain_fj.proofs.Members.{unlike, find_none, none_find, has_all, all_has, all_flat_map, all_same}
 use Rattle.plain_fj.proofs.Typed.{judged_of, type_of}
 use Rattle.plain_fj.proofs.Clear.{none_breaks, nodes_clear, clear}
 

@@ -5,7 +5,7 @@ use Rattle.std.proofs.Math.Seq.{take-length}
 use Rattle.cfj_model.specs.LookUps.{fields_of}
 use Rattle.cfj_model.specs.declared.class.Class.{Class}
 use Rattle.cfj_model.specs.declared.class.Field.{Field}
-use Rattle.plain_fj.specs.ByName.{seen}
+use Rattle.class_table.specs.ByName.{seen}
 use Rattle.plain_fj.specs.Found.{names}
 
 -- ---- lists by places

@@ -15,7 +15,7 @@ use Rattle.cfj_model.specs.declared.expr.Arg.{Arg}
 use Rattle.cfj_model.specs.declared.expr.Expr.{Expr}
 use Rattle.cfj_model.specs.declared.expr.Expr.TheVariants as e
 use Rattle.cfj_model.proofs.ExprCases.{fold_var, fold_get, fold_call, fold_new, fold_cast, Proved, args_of, by_cases}
-use Rattle.plain_fj.proofs.Members.{unlike, not_true, name_is, find_has, mapped}
+use Rattle.class_table.proofs.Members.{unlike, not_true, name_is, find_has, mapped}
 use Rattle.plain_fj.proofs.Chains.{subtype_holds, holds_subtype}
 use Rattle.plain_fj.proofs.Inherited.{IsSound, known_above, known_below, fields_are, are_fields, fields_known, field_known, nearest_has, typed_field, method_is, is_method, result_known}
 use Rattle.plain_fj.proofs.Fitting.{are_below, fits_below}

@@ -12,7 +12,7 @@ use Rattle.cfj_model.specs.declared.class.Class.{Class}
 use Rattle.cfj_model.specs.declared.class.Field.{Field}
 use Rattle.cfj_model.specs.declared.class.Method.{Method}
 use Rattle.cfj_model.specs.declared.class.Param.{Param}
-use Rattle.plain_fj.proofs.Members.{not_true, name_is, is_name, has_all, all_has, all_flat_map}
+use Rattle.class_table.proofs.Members.{not_true, name_is, is_name, has_all, all_has, all_flat_map}
 use Rattle.plain_fj.proofs.Quiet.{are_known_params}
 
 -- ---- lists of names

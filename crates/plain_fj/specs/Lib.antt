@@ -1,4 +1,3 @@
 pub mod Alternatives
-pub mod ByName
 pub mod Found
 pub mod Breaking

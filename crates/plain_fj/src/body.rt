@@ -4,9 +4,9 @@ ghost use Rattle.std.specs.Prelude.{true, [], ◌∷◌, OnOk};
 ghost use Rattle.plain_fj.specs.Breaking.{Adds};
 ghost use Rattle.plain_fj.specs.Found.{IsNameJudged, at_nodes};
 
-use crate::class_table::ClassTable;
 use crate::site_break::{Break, note};
 use cfj_model::{Name, Param, Rule, SiteRef};
+use class_table::ClassTable;
 use std::alloc::{AllocError, Global};
 
 /// The method whose body is judged, and what it is judged by.

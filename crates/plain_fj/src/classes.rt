@@ -3,16 +3,16 @@
 ghost use Rattle.std.specs.Prelude.{◌≡◌, IfOk, OnOk};
 ghost use Rattle.cfj_model.specs.Judging.{judged_class};
 ghost use Rattle.cfj_model.specs.LookUps as spec;
+ghost use Rattle.class_table.specs.ByName.{seen};
 ghost use Rattle.plain_fj.specs.Alternatives.{DoAltsRise};
 ghost use Rattle.plain_fj.specs.Breaking.{Adds};
-ghost use Rattle.plain_fj.specs.ByName.{seen};
 
-use crate::class_table::{ClassTable, is_extended};
 use crate::ctors::judge_ctor;
 use crate::fields::judge_fields;
 use crate::methods::judge_methods;
 use crate::site_break::{Break, note};
 use cfj_model::{Class, Name, Rule, SiteRef};
+use class_table::{ClassTable, is_extended};
 use std::alloc::{AllocError, Global};
 
 /// The classes of a chain but that of this name.

@@ -3,14 +3,14 @@
 ghost use Rattle.std.specs.Prelude.{◌≡◌, IfOk, OnOk, flat_map, map};
 ghost use Rattle.cfj_model.specs.Judging as spec;
 ghost use Rattle.cfj_model.specs.LookUps.{fields_of};
+ghost use Rattle.class_table.specs.ByName.{seen};
 ghost use Rattle.plain_fj.specs.Breaking.{Adds, judged_ctor_param};
-ghost use Rattle.plain_fj.specs.ByName.{seen};
 
-use crate::class_table::ClassTable;
 use crate::same_names::{are_same, field_names, param_names, push_names, sent_names};
 use crate::site_break::{Break, note};
 use crate::wanted::{field_types, param_types};
 use cfj_model::{Class, Name, Rule, SiteRef};
+use class_table::ClassTable;
 use std::alloc::{AllocError, Global};
 
 /// Whether the parameters of a class's constructor are the fields of a chain, by types and by names.

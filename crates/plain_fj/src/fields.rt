@@ -4,13 +4,13 @@ ghost use Rattle.std.specs.Prelude.{◌≡◌, true, OnOk, flat_map};
 ghost use Rattle.cfj_model.specs.Judging.{judged_field};
 ghost use Rattle.cfj_model.specs.LookUps as spec;
 ghost use Rattle.cfj_model.specs.Members.{field_alts_rise, field_name_of, is_again, placed};
+ghost use Rattle.class_table.specs.ByName.{seen};
 ghost use Rattle.plain_fj.specs.Breaking.{Adds};
 ghost use Rattle.plain_fj.specs.Alternatives.{IsToldByAlt, behind};
-ghost use Rattle.plain_fj.specs.ByName.{seen};
 
-use crate::class_table::{ClassTable, nearest_field};
 use crate::site_break::{Break, note};
 use cfj_model::{Class, Field, Rule, SiteRef};
+use class_table::{ClassTable, nearest_field};
 use std::alloc::AllocError;
 
 /// Whether one of the fields before it has a field's name. The first of its name has alt 0, so that most aren't compared.

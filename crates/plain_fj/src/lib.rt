@@ -4,8 +4,8 @@
 //!
 //! # How it judges
 //!
-//! `ClassTable` is made once: the classes by name, and by name the chain of each, which is the class, its superclass and so on.
-//! Subtyping and the nearest declaration of a field or a method go along one chain, so no look-up goes through the classes.
+//! The `ClassTable` of a project is made once. Subtyping and the nearest declaration of a field or a method go along one chain of it, so
+//! no look-up goes through the classes.
 //!
 //! `judge` goes down an expression and comes back with its type, if it has one; what breaks at its nodes it adds to a list, in the
 //! order of their slots. `nodes`, `calls` and `news` have a function for each kind of node, which makes this of what its parts
@@ -24,8 +24,6 @@
 
 mod body;
 mod calls;
-mod class_map;
-mod class_table;
 mod classes;
 mod ctors;
 mod fields;
@@ -38,7 +36,6 @@ mod nodes;
 mod projects;
 mod same_names;
 mod site_break;
-mod superclasses;
 mod wanted;
 
 pub use laws::well_typed_exactly;

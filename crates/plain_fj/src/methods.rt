@@ -7,17 +7,17 @@ ghost use Rattle.cfj_model.specs.Judging as spec;
 ghost use Rattle.cfj_model.specs.LookUps as look_up;
 ghost use Rattle.cfj_model.specs.Members.{is_again, method_alts_rise, method_name_of, placed};
 ghost use Rattle.cfj_model.specs.Typing as typing;
+ghost use Rattle.class_table.specs.ByName.{seen};
 ghost use Rattle.plain_fj.specs.Alternatives.{IsToldByAlt, behind};
 ghost use Rattle.plain_fj.specs.Breaking.{Adds, judged_param};
-ghost use Rattle.plain_fj.specs.ByName.{seen};
 
 use crate::body::Body;
-use crate::class_table::{ClassTable, nearest_method};
 use crate::judge::judge;
 use crate::same_names::are_same;
 use crate::site_break::{Break, note};
 use crate::wanted::param_types;
 use cfj_model::{Class, Method, Name, Rule, SiteRef};
+use class_table::{ClassTable, nearest_method};
 use std::alloc::{AllocError, Global};
 
 /// Whether two methods have the same parameter types and the same result.

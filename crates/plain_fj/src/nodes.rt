@@ -11,9 +11,9 @@ ghost use Rattle.plain_fj.specs.Found.{IsJudged, IsNameJudged};
 ghost use Rattle.plain_fj.specs.declared.site_break.Break.{Break};
 
 use crate::body::Body;
-use crate::class_table::ClassTable;
 use crate::site_break::Break;
 use cfj_model::{Expr, Name, Param, Rule};
+use class_table::ClassTable;
 use std::alloc::AllocError;
 
 /// The slot of an expression's root.

@@ -9,10 +9,10 @@ ghost use Rattle.cfj_model.specs.declared.site.Rule.{Rule};
 ghost use Rattle.cfj_model.specs.declared.site.Site.{Site};
 ghost use Rattle.plain_fj.specs.Breaking.{breaking, told};
 
-use crate::class_table::ClassTable;
 use crate::classes::judge_class;
 use crate::site_break::Break;
 use cfj_model::{Project, Rule, Site};
+use class_table::ClassTable;
 use std::alloc::{AllocError, Global};
 
 /// The breaks of a project.

@@ -3,7 +3,7 @@
 ghost use Rattle.std.specs.Prelude.{◌≡◌, IfOk, OnOk, ◌++◌, map};
 ghost use Rattle.cfj_model.specs.LookUps.{fields_of};
 ghost use Rattle.cfj_model.specs.Typing as typing;
-ghost use Rattle.plain_fj.specs.ByName.{seen};
+ghost use Rattle.class_table.specs.ByName.{seen};
 ghost use Rattle.plain_fj.specs.Found.{names};
 
 use cfj_model::{Class, Field, Name, Param};

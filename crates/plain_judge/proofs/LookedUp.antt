@@ -7,7 +7,7 @@ use Rattle.indexmap.specs.IndexSet.{insert_key}
 use Rattle.cfj_model.specs.Judging.{Pair}
 use Rattle.cfj_words.specs.Lists.{Has}
 use Rattle.cfj_model.specs.declared.site.Rule.{Rule}
-use Rattle.plain_fj.proofs.Members.{has_none, has_rest, has_left, has_right, has_either}
+use Rattle.class_table.proofs.Members.{has_none, has_rest, has_left, has_right, has_either}
 use Rattle.plain_fj.proofs.TypeLists.{take_more}
 use Rattle.plain_judge.specs.PairParts.{IsSetOf, pair_parts, seen_pair}
 use Rattle.plain_judge.specs.SiteParts.{SiteParts}

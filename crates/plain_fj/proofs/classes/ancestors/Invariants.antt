@@ -1,6 +1,6 @@
 use Rattle.std.proofs.Common.{◌≡◌, take}
 use Rattle.cfj_model.specs.LookUps.{without}
-use Rattle.plain_fj.specs.ByName.{seen}
+use Rattle.class_table.specs.ByName.{seen}
 use Rattle.plain_fj.proofs.classes.ancestors.Given as goal
 
 abbrev pub invariant-each : goal.invariant-each

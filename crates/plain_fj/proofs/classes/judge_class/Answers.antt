@@ -7,8 +7,8 @@ use Rattle.cfj_model.specs.Members.{placed}
 use Rattle.cfj_model.specs.declared.class.Class.{Class}
 use Rattle.cfj_model.specs.declared.site.Rule.TheVariants.{K1, K2}
 use Rattle.cfj_model.specs.declared.site.Site.TheVariants as site
+use Rattle.class_table.proofs.Nearest.{any_seen}
 use Rattle.plain_fj.proofs.Broken.{adds_then, noted, then_added}
-use Rattle.plain_fj.proofs.Nearest.{any_seen}
 use Rattle.plain_fj.proofs.classes.judge_class.Goals as goal
 
 pub judge_fields-requires-clause-alts : goal.judge_fields-requires-clause-alts

@@ -1,8 +1,8 @@
 use Rattle.std.proofs.Common.{◌≤◌, [], length, arith, ◌∙◌}
 use Rattle.cfj_model.specs.Judging.{judged_class}
+use Rattle.class_table.proofs.Members.{drop_get}
 use Rattle.plain_fj.proofs.Broken.{added_more, added_all, all_judged, class_of_table}
 use Rattle.plain_fj.proofs.Law.{alts_kept}
-use Rattle.plain_fj.proofs.Members.{drop_get}
 use Rattle.plain_fj.proofs.projects.judge_project.Goals as goal
 
 pub judge_class-requires : goal.judge_class-requires

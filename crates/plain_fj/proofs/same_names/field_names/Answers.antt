@@ -1,6 +1,6 @@
 use Rattle.std.proofs.Common.{◌≡◌, ◌-◌, ◌+◌, ◌<◌, ◌≤◌, ◌++◌, suc, length, drop, slice_index_or, arith, sym, ◌∙◌, ap}
 use Rattle.cfj_model.specs.LookUps.{fields_of}
-use Rattle.plain_fj.specs.ByName.{seen}
+use Rattle.class_table.specs.ByName.{seen}
 use Rattle.plain_fj.specs.Found.{names}
 use Rattle.plain_fj.proofs.TypeLists.{drop_past}
 use Rattle.plain_fj.proofs.SameNames.{own_names, names_of_more}

@@ -1,0 +1,5 @@
+pub mod Members
+pub mod Without
+pub mod ByNames
+pub mod Walking
+pub mod Nearest

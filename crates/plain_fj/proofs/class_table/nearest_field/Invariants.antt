@@ -1,6 +1,0 @@
-use Rattle.cfj_model.specs.LookUps.{field_called}
-use Rattle.plain_fj.proofs.Nearest.{IsNearing}
-use Rattle.plain_fj.proofs.class_table.nearest_field.Given as goal
-
-abbrev pub invariant-each : goal.invariant-each
-invariant-each l = IsNearing (field_called l.name) l.chain l.class-index

@@ -13,9 +13,8 @@ use Rattle.cfj_logic.specs.Selections.{has_bit}
 use Rattle.cfj_logic.specs.Sides.{Sides, is_over, is_within}
 use Rattle.cfj_words.specs.Lists.{Has}
 use Rattle.cfj_logic.specs.Logs.{AreBelow, AreWellFormed, literals, premises, Follows, IsEntry, IsAccepted}
-use Rattle.unit_propagation.proofs.Members.{lt_or_ge, all_has, all_from, has_split, has_source, any_has, none_has, slice_get_left, slice_get_end, both_true}
+use Rattle.unit_propagation.proofs.Members.{lt_or_ge, all_has, all_from, has_split, has_source, any_has, none_has, slice_get_left, slice_get_end, take_next, both_true}
 use Rattle.refutation_check.proofs.ClauseLiterals.{side, literals_has}
-use Rattle.unit_propagation.proofs.Passes.{take_next}
 
 -- ---- literals of clauses over features
 

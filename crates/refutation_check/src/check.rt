@@ -21,7 +21,7 @@ pub fn check_refutation(alloc: Global, clauses: &Clauses, log: &Log) -> Result<b
     if !holds_empty(log.clauses()) {
         return Ok(false);
     }
-    let mut premises = WatchedClauses::of(alloc, clauses.vars, clauses.list.slice())?;
+    let mut premises = WatchedClauses::of(alloc, clauses.list.slice())?;
     accepted(alloc, clauses, log.clauses(), &mut premises)
 }
 
@@ -121,7 +121,7 @@ pub fn check_least(
     ensures { IfOk result (λ b. IsTrue b ↔ IsProofOfLeast clauses.now log.now selection.now) }
 {
     let choices = choices(alloc, selection)?;
-    let mut premises = WatchedClauses::of(alloc, clauses.vars, clauses.list.slice())?;
+    let mut premises = WatchedClauses::of(alloc, clauses.list.slice())?;
     if !extends(alloc, clauses, &mut premises, choices.as_slice(), selection)? {
         return Ok(false);
     }

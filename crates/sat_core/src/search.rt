@@ -31,10 +31,9 @@ pub fn solve(alloc: Global, clauses: &Clauses, budget: u32) -> Result<Answer, Al
     ensures { IfOk result (λ answer. AnswerSays clauses.now budget answer) }
 {
     let mut log = Log::new(alloc);
-    let mut premises = WatchedClauses::of(alloc, clauses.vars, clauses.list.slice())?;
+    let mut premises = WatchedClauses::of(alloc, clauses.list.slice())?;
     let mut values = vec![in alloc; None; clauses.vars as usize]?;
     let mut trail = Vec::new(alloc);
-    let mut from = 0;
     'search: loop {
         let found = follow(
             alloc,
@@ -43,7 +42,6 @@ pub fn solve(alloc: Global, clauses: &Clauses, budget: u32) -> Result<Answer, Al
             &mut premises,
             &mut values,
             &mut trail,
-            from,
         )?;
         match found {
             None => match next_feature(clauses.features, values.as_slice()) {
@@ -52,7 +50,6 @@ pub fn solve(alloc: Global, clauses: &Clauses, budget: u32) -> Result<Answer, Al
                     return Ok(Answer::Least(selection, log));
                 }
                 Some(feature) => {
-                    from = trail.len();
                     decide(&mut values, &mut trail, feature)?;
                 }
             },
@@ -66,7 +63,7 @@ pub fn solve(alloc: Global, clauses: &Clauses, budget: u32) -> Result<Answer, Al
                         return Ok(Answer::Refuted(log));
                     }
                     Some(decision) => {
-                        from = learn(
+                        learn(
                             alloc,
                             clauses,
                             &mut log,

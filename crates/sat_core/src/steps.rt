@@ -14,7 +14,7 @@ use refutation_check::literals;
 use std::alloc::{AllocError, Global};
 use unit_propagation::WatchedClauses;
 
-/// Follows the trail from a place on by unit clauses, until a clause is falsified, whose place is the result, or all are open.
+/// Follows the values by unit clauses, until a clause is falsified, whose place is the result, or all are open.
 pub(crate) fn follow(
     alloc: Global,
     clauses: &Clauses,
@@ -22,14 +22,13 @@ pub(crate) fn follow(
     premises: &mut WatchedClauses,
     values: &mut Vec<Option<bool>>,
     trail: &mut Vec<Step>,
-    from: usize,
 ) -> Result<Option<usize>, AllocError>
     requires formed { AreWellFormed clauses.now }
     requires known { IsLearned clauses.now log.now premises.old }
     requires along { IsOnTrail clauses.now premises.old values.old.items trail.old.items }
     ensures { IfOk result (λ found. Follows clauses.now premises.old premises.new values.old.items values.new.items trail.new.items found) }
 {
-    premises.extend(alloc, values.as_mut_slice(), trail, from)
+    premises.extend(alloc, values.as_mut_slice(), trail)
 }
 
 /// Decides that a feature isn't selected.
@@ -90,7 +89,7 @@ fn log_clause(
     log.push(clause)
 }
 
-/// Learns a clause from a conflict, logs it, and goes back to where all its literals but one are false. The place there is the result.
+/// Learns a clause from a conflict, logs it, and goes back to where all its literals but one are false.
 pub(crate) fn learn(
     alloc: Global,
     clauses: &Clauses,
@@ -100,7 +99,7 @@ pub(crate) fn learn(
     trail: &mut Vec<Step>,
     conflict: usize,
     decision: usize,
-) -> Result<usize, AllocError>
+) -> Result<(), AllocError>
     requires formed { AreWellFormed clauses.now }
     requires known { IsLearned clauses.now log.old premises.old }
     requires along { IsOnTrail clauses.now premises.old values.old.items trail.old.items }
@@ -121,5 +120,5 @@ pub(crate) fn learn(
     )?;
     log_clause(alloc, clauses, log, premises, &learned)?;
     jump_back(values, trail, learned.target);
-    Ok(learned.target)
+    Ok(())
 }

@@ -1,6 +1,9 @@
+pub mod Adding
+pub mod Finding
 pub mod Growing
+pub mod Listing
 pub mod Members
-pub mod Passes
 pub mod Standing
 pub mod UnitSteps
+pub mod Walking
 pub mod Watching

@@ -6,6 +6,7 @@ use Rattle.cfj_logic.specs.declared.clauses.Literal.{Literal}
 use Rattle.cfj_words.specs.Lists.{Has}
 use Rattle.cfj_logic.specs.UnitClauses.{Values, value_of, IsFalse, IsUnvalued, with_true, IsFalsified, IsUnit, Reaches, here, by_unit, Leads}
 use Rattle.unit_propagation.specs.Standings.{IsOpen, AreOpen}
+use Rattle.unit_propagation.specs.Walks.{IsWithin}
 use Rattle.unit_propagation.proofs.Members.{lt_or_ge}
 
 -- ---- values
@@ -45,7 +46,7 @@ value_cases false false = inl refl
 
 -- each value stays
 abbrev pub Within : Values → Values → Type 0
-Within vs ws = (x : ℕ) (b : Bool) → value_of vs x ≡ Some b → value_of ws x ≡ Some b
+Within = IsWithin
 
 pub grown : (vs : Values) (l : Literal) → IsUnvalued vs l → Within vs (with_true vs l)
 grown vs l u x b e = go (set_cases vs l.var x (Some l.on))

@@ -1,14 +1,11 @@
 -- What a clause comes to, literal by literal.
-use Rattle.std.specs.Prelude.{◌≡◌, ℕ, ◌<◌, Bool, true, false, not, ◌==◌, ◌&&◌, ◌⊎◌, if◌then◌else◌}
-use Rattle.std.specs.Prelude.{List, [], ◌∷◌, sum_by, Option, Some, None}
+use Rattle.std.specs.Prelude.{◌≡◌, ℕ, Bool, true, false, not, ◌==◌, ◌&&◌, ◌⊎◌, if◌then◌else◌}
+use Rattle.std.specs.Prelude.{List, [], ◌∷◌, Option, Some, None}
 use Rattle.cfj_logic.specs.declared.clauses.Literal.{Literal}
 use Rattle.unit_propagation.specs.declared.units.Standing.{Standing}
 use Rattle.unit_propagation.specs.declared.units.Standing.TheVariants.{Open, Falsified, Unit as UnitOf}
-use Rattle.unit_propagation.specs.declared.sweep.Pass.{Pass}
-use Rattle.unit_propagation.specs.declared.sweep.Pass.TheVariants as pass
 use Rattle.cfj_words.specs.Lists.{Has}
 use Rattle.cfj_logic.specs.UnitClauses.{Values, value_of, IsUnvalued, IsFalsified, IsUnit}
-use Rattle.unit_propagation.specs.Falsified.{IsFalsifiedAt}
 
 -- the two values are the same
 abbrev pub bool_eq : Bool → Bool → Bool
@@ -52,9 +49,3 @@ Shows vs c (UnitOf l) = IsUnit vs c l
 abbrev pub unvalued : Option Bool → ℕ
 unvalued None = 1
 unvalued (Some b) = 0
-
--- what going once through the clauses says of the values before and after
-abbrev pub Passes : List (List Literal) → Values → Values → Pass → Type 0
-Passes cs vs ws (pass.Falsified place) = IsFalsifiedAt cs ws place
-Passes cs vs ws pass.Changed = sum_by unvalued ws < sum_by unvalued vs
-Passes cs vs ws pass.Still = (ws ≡ vs) × AreOpen cs vs

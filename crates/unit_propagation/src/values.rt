@@ -1,7 +1,7 @@
 //! The values of literals.
 
 ghost use Rattle.std.specs.Prelude.{◌≡◌, ◌↔◌, IsTrue, Some};
-ghost use Rattle.cfj_logic.specs.UnitClauses.{value_of};
+ghost use Rattle.cfj_logic.specs.UnitClauses.{value_of, IsFalse};
 
 use cfj_logic::Literal;
 
@@ -24,7 +24,9 @@ pub(crate) fn is_true(values: &[Option<bool>], literal: Literal) -> bool
 }
 
 /// Whether the literal's variable has the other value.
-pub(crate) fn is_false(values: &[Option<bool>], literal: Literal) -> bool {
+pub(crate) fn is_false(values: &[Option<bool>], literal: Literal) -> bool
+    ensures { IsTrue result ↔ IsFalse values.now literal }
+{
     match value_of(values, literal.var) {
         Some(value) => value != literal.on,
         None => false,

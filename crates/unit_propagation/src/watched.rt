@@ -1,15 +1,19 @@
 //! Clauses with their watches, and what unit clauses among them lead to.
 
-ghost use Rattle.std.specs.Prelude.{◌≡◌, ◌↔◌, ◌++◌, ◌∷◌, [], length, All, IsTrue, IfOk, OnOk, IfSome, IfNone};
+ghost use Rattle.std.specs.Prelude.{◌≡◌, ◌↔◌, ◌++◌, ◌∷◌, ℕ, List, [], length, All, IsTrue, IfOk, OnOk, IfSome, IfNone};
+ghost use Rattle.cfj_logic.specs.declared.clauses.Literal.{Literal};
 ghost use Rattle.cfj_logic.specs.UnitClauses.{Leads};
 ghost use Rattle.cfj_logic.specs.Logs.{AreBelow};
+ghost use Rattle.cfj_words.specs.Lists.{Has};
 ghost use Rattle.unit_propagation.specs.Falsified.{IsFalsifiedAt};
 ghost use Rattle.unit_propagation.specs.Standings.{AreOpen};
 ghost use Rattle.unit_propagation.specs.Trails.{Grows};
+ghost use Rattle.unit_propagation.specs.Watched.{AreTwoOf, IsShort, IsNoted, IsKept};
 
-use crate::sweep::{Pass, go_through};
+use crate::pair::{Pair, two_of, two_or_these};
 use crate::trail::{Step, trail_of};
-use crate::watches::{Visit, Watches, settle};
+use crate::walk::follow;
+use crate::watches::Watches;
 use cfj_logic::Literal;
 use cfj_words::Items;
 use std::alloc::{AllocError, Global};
@@ -22,118 +26,71 @@ use std::marker::Model;
 pub struct WatchedClauses {
     clauses: Vec<Items<Literal>>,
     watches: Watches,
+    /// The places of the clauses that have no two different literals.
+    short: Vec<usize>,
 }
 
 impl Model for WatchedClauses {
     ghost use Rattle.std.specs.Prelude.{List};
     ghost use Rattle.cfj_logic.specs.declared.clauses.Literal.{Literal};
+    ghost use Rattle.unit_propagation.specs.Watched.{IsKept};
 
     ghost Value = { List (List Literal) };
 
     ghost view = { λ w. w.clauses.items };
+
+    ghost invariant = { λ w. IsKept w.clauses.items w.watches w.short.items };
 }
 
-/// Makes the literal of the clause that came last true if it is a unit clause. The result is its place if it is falsified.
-fn settle_last(
-    clauses: &[Items<Literal>],
-    values: &mut [Option<bool>],
-    trail: &mut Vec<Step>,
-) -> Result<Option<usize>, AllocError>
-    requires below { All (AreBelow (length values.old)) clauses.now }
-    ensures grown { OnOk result (Grows clauses.now values.old trail.old.items values.new trail.new.items) }
-    ensures falsified { IfOk result (λ found. IfSome found (λ place. IsFalsifiedAt clauses.now values.new place)) }
+/// The two literals that are watched of the clause that comes at a place; of a short one the place is noted, and any pair
+/// will do.
+fn pair_of(short: &mut Vec<usize>, place: usize, two: Option<Pair>) -> Result<Pair, AllocError>
+    ensures kept { (k : ℕ) → Has short.old.items k → Has short.new.items k }
+    ensures noted { IfOk result (λ pair. (c : List Literal)
+        → IfSome two (AreTwoOf c) → IfNone two (IsShort c) → IsNoted c pair short.new.items place) }
 {
-    if clauses.is_empty() {
-        return Ok(None);
-    }
-    let last = clauses.len() - 1;
-    match settle(clauses, values, trail, last)? {
-        Visit::Falsified => Ok(Some(last)),
-        _ => Ok(None),
-    }
-}
-
-/// Makes the literals of those clauses true that no watch leads to: at the trail's begin the ones without two literals, and else the
-/// one that came last. The result is the place of a falsified one.
-fn settle_first(
-    clauses: &[Items<Literal>],
-    watches: &Watches,
-    values: &mut [Option<bool>],
-    trail: &mut Vec<Step>,
-    from: usize,
-) -> Result<Option<usize>, AllocError>
-    requires below { All (AreBelow (length values.old)) clauses.now }
-    ensures grown { OnOk result (Grows clauses.now values.old trail.old.items values.new trail.new.items) }
-    ensures falsified { IfOk result (λ found. IfSome found (λ place. IsFalsifiedAt clauses.now values.new place)) }
-{
-    if from == 0 {
-        watches.settle_short(clauses, values, trail)
-    } else {
-        settle_last(clauses, values, trail)
-    }
-}
-
-/// Follows the trail from a place on by unit clauses, as the watches lead, up to a falsified clause.
-fn follow(
-    alloc: Global,
-    clauses: &[Items<Literal>],
-    watches: &mut Watches,
-    values: &mut [Option<bool>],
-    trail: &mut Vec<Step>,
-    from: usize,
-) -> Result<Option<usize>, AllocError>
-    requires below { All (AreBelow (length values.old)) clauses.now }
-    ensures grown { OnOk result (Grows clauses.now values.old trail.old.items values.new trail.new.items) }
-    ensures falsified { IfOk result (λ found. IfSome found (λ place. IsFalsifiedAt clauses.now values.new place)) }
-{
-    let first = settle_first(clauses, watches, values, trail, from)?;
-    if first.is_some() {
-        return Ok(first);
-    }
-    watches.follow(alloc, clauses, values, trail, from)
-}
-
-/// Follows the trail from a place on by unit clauses until a clause is falsified, whose place is the result, or all are open.
-fn extend(
-    alloc: Global,
-    clauses: &[Items<Literal>],
-    watches: &mut Watches,
-    values: &mut [Option<bool>],
-    trail: &mut Vec<Step>,
-    from: usize,
-) -> Result<Option<usize>, AllocError>
-    requires below { All (AreBelow (length values.old)) clauses.now }
-    ensures grown { OnOk result (Grows clauses.now values.old trail.old.items values.new trail.new.items) }
-    ensures falsified { IfOk result (λ found. IfSome found (λ place. IsFalsifiedAt clauses.now values.new place)) }
-    ensures opened { IfOk result (λ found. IfNone found (AreOpen clauses.now values.new)) }
-{
-    let mut from = from;
-    'passes: loop {
-        let found = follow(alloc, clauses, watches, values, trail, from)?;
-        if found.is_some() {
-            return Ok(found);
-        }
-        from = trail.len();
-        match go_through(clauses, values, trail)? {
-            Pass::Falsified(place) => return Ok(Some(place)),
-            Pass::Still => return Ok(None),
-            Pass::Changed => {}
+    match two {
+        Some(pair) => Ok(pair),
+        None => {
+            short.push(place)?;
+            let any = Literal { var: 0, on: false };
+            Ok(Pair {
+                first: any,
+                second: any,
+            })
         }
     }
+}
+
+/// Puts a clause at the end, two literals of which are watched if it has two.
+fn put(
+    clauses: &mut Vec<Items<Literal>>,
+    watches: &mut Watches,
+    short: &mut Vec<usize>,
+    clause: Items<Literal>,
+    two: Option<Pair>,
+) -> Result<(), AllocError>
+    requires kept { IsKept clauses.old.items watches.old short.old.items }
+    requires some { IfSome two (AreTwoOf clause) }
+    requires none { IfNone two (IsShort clause) }
+    ensures kept { IsKept clauses.new.items watches.new short.new.items }
+    ensures put { OnOk result (clauses.new.items ≡ clauses.old.items ++ clause ∷ []) }
+{
+    let pair = pair_of(short, clauses.len(), two)?;
+    watches.add(clauses.as_slice(), pair)?;
+    clauses.push(clause)?;
+    Ok(())
 }
 
 impl WatchedClauses {
-    /// These clauses, over so many variables.
-    pub fn of(
-        alloc: Global,
-        vars: u64,
-        clauses: &[Items<Literal>],
-    ) -> Result<WatchedClauses, AllocError>
+    /// These clauses.
+    pub fn of(alloc: Global, clauses: &[Items<Literal>]) -> Result<WatchedClauses, AllocError>
         ensures { IfOk result (λ watched. watched ≡ clauses.now) }
     {
         let mut watched = WatchedClauses {
             clauses: Vec::new(alloc),
-            watches: Watches::new(alloc, vars)?,
+            watches: Watches::new(alloc),
+            short: Vec::new(alloc),
         };
         'clauses: for clause in clauses {
             let mut copy = Vec::new(alloc);
@@ -147,8 +104,14 @@ impl WatchedClauses {
     pub fn push(&mut self, clause: Items<Literal>) -> Result<(), AllocError>
         ensures { OnOk result (self.new ≡ self.old ++ clause ∷ []) }
     {
-        self.watches.add(clause.slice())?;
-        Ok(self.clauses.push(clause)?)
+        let two = two_of(clause.slice());
+        put(
+            &mut self.clauses,
+            &mut self.watches,
+            &mut self.short,
+            clause,
+            two,
+        )
     }
 
     /// Whether unit clauses lead from these values to a falsified clause. The values are those that unit clauses lead to.
@@ -165,11 +128,11 @@ impl WatchedClauses {
         ensures same { OnOk result (self.new ≡ self.old) }
     {
         let mut trail = trail_of(alloc, values)?;
-        let found = self.extend(alloc, values, &mut trail, 0)?;
+        let found = self.extend(alloc, values, &mut trail)?;
         Ok(found.is_some())
     }
 
-    /// Follows the trail from a place on by unit clauses, until a clause is falsified, whose place is the result, or all are open.
+    /// Follows the values by unit clauses, until a clause is falsified, whose place is the result, or all are open.
     ///
     /// Each literal that is made true joins the trail.
     pub fn extend(
@@ -177,7 +140,6 @@ impl WatchedClauses {
         alloc: Global,
         values: &mut [Option<bool>],
         trail: &mut Vec<Step>,
-        from: usize,
     ) -> Result<Option<usize>, AllocError>
         requires { All (AreBelow (length values.old)) self.old }
         ensures grown { OnOk result (Grows self.old values.old trail.old.items values.new trail.new.items) }
@@ -185,13 +147,13 @@ impl WatchedClauses {
         ensures opened { IfOk result (λ found. IfNone found (AreOpen self.old values.new)) }
         ensures same { OnOk result (self.new ≡ self.old) }
     {
-        extend(
+        follow(
             alloc,
             self.clauses.as_slice(),
             &mut self.watches,
+            self.short.as_slice(),
             values,
             trail,
-            from,
         )
     }
 
@@ -202,7 +164,7 @@ impl WatchedClauses {
         self.clauses.as_slice()
     }
 
-    /// Puts a clause at the end, two literals of which are watched, these if they are given.
+    /// Puts a clause at the end, two literals of which are watched, these if they are two of it.
     pub fn learn(
         &mut self,
         clause: Items<Literal>,
@@ -211,10 +173,13 @@ impl WatchedClauses {
     ) -> Result<(), AllocError>
         ensures { OnOk result (self.new ≡ self.old ++ clause ∷ []) }
     {
-        match (first, second) {
-            (Some(first), Some(second)) => self.watches.watch(first, second)?,
-            _ => self.watches.add(clause.slice())?,
-        }
-        Ok(self.clauses.push(clause)?)
+        let two = two_or_these(clause.slice(), first, second);
+        put(
+            &mut self.clauses,
+            &mut self.watches,
+            &mut self.short,
+            clause,
+            two,
+        )
     }
 }

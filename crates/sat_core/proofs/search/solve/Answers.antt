@@ -108,7 +108,7 @@ returns-in-None-last_decision c =
 pub search-smaller : goal.search-smaller
 search-smaller c =
     let cl = c.args.clauses.now in
-    let learned = c.in_ok-from-in-Some-last_decision.ensures in
+    let learned = c.in_ok-learn-in-Some-last_decision.ensures in
     let n : length c.clauses.result.now ≡ length c.search.log = ap length c.clauses.ensures in
     let most = c.search.invariant.within in
     let size : length c.learn.new.values.items ≡ cl.vars = ap length learned.along.values_are ∙ values_length cl.vars c.learn.new.trail.items in
@@ -118,7 +118,7 @@ search-smaller c =
 
 pub search-preserved : goal.search-preserved
 search-preserved c =
-    let learned = c.in_ok-from-in-Some-last_decision.ensures in
+    let learned = c.in_ok-learn-in-Some-last_decision.ensures in
     let n : length c.clauses.result.now ≡ length c.search.log = ap length c.clauses.ensures in
     let most = c.search.invariant.within in
     let longer = learned.longer in

@@ -1,7 +1,6 @@
 use Rattle.std.proofs.Common.{◌≡◌, [], arith, subst, drop, sym, ◌∙◌, ap}
 use Rattle.std.proofs.Math.ListN.{drop_of_length-le}
 use Rattle.unit_propagation.specs.Standings.{Shows, standing_from}
-use Rattle.unit_propagation.specs.declared.units.Standing.TheVariants.{Open}
 use Rattle.unit_propagation.proofs.Standing.{shows, open_stays}
 use Rattle.unit_propagation.proofs.units.standing_of.Goals as goal
 

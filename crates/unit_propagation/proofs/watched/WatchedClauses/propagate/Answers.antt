@@ -1,6 +1,5 @@
-use Rattle.std.proofs.Common.{◌∙◌, ap, is_some}
 use Rattle.unit_propagation.proofs.Growing.{grows_reaches}
-use Rattle.unit_propagation.proofs.Watching.{tells}
+use Rattle.unit_propagation.proofs.Finding.{tells}
 use Rattle.unit_propagation.proofs.watched.WatchedClauses.propagate.Goals as goal
 
 pub returns-clause-leads : goal.returns-clause-leads

@@ -1,0 +1,7 @@
+use Rattle.std.proofs.Common.{◌≡◌, take}
+use Rattle.cfj_logic.specs.declared.clauses.Literal.{Literal}
+use Rattle.cfj_words.specs.Lists.{Has}
+use Rattle.unit_propagation.proofs.pair.find_other.Given as goal
+
+abbrev pub invariant-loop-literal : goal.invariant-loop-literal
+invariant-loop-literal l = (m : Literal) → Has (take l.literal-index l.clause) m → l.first ≡ m

@@ -19,8 +19,8 @@ use Rattle.cfj_model.specs.declared.site.Site.{Site}
 use Rattle.cfj_model.specs.declared.site.Site.TheVariants as site
 use Rattle.feature_views.proofs.Kept.{kept, kept_of_map}
 use Rattle.feature_views.proofs.SelectedBodies.{arg_present, projected_arg, projected_args, projected_var, projected_get, projected_call, projected_new, projected_cast}
-use Rattle.plain_judge.specs.Pairs.{arg_pairs, class_pairs, ctor_pairs, ctor_param_pairs, field_pairs, method_pairs, node_pairs, pairs_at, param_pairs, project_pairs}
-use Rattle.plain_judge.proofs.ProjectPairs.{node_get, node_call, node_new, node_cast, project_listed}
+use Rattle.unit_facts.specs.Pairs.{arg_pairs, class_pairs, ctor_pairs, ctor_param_pairs, field_pairs, method_pairs, node_pairs, pairs_at, param_pairs, project_pairs}
+use Rattle.unit_facts.proofs.ProjectPairs.{node_get, node_call, node_new, node_cast, project_listed}
 use Rattle.clean_law.proofs.Among.{AreAmong, among_as, among_append, among_behind, among_kept}
 
 -- ---- bodies

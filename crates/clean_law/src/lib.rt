@@ -1,8 +1,8 @@
 //! The law that a check of a product line without entries clears all its variants.
 //!
-//! It needs no code but to ask what a project's type keeps, and rests on four things: `unit_facts`, whose
-//! `specs/Diagnostics.antt` says that a pair of a site and a rule without an entry breaks under no valid selection;
-//! `plain_judge`, where the pairs of a project are listed node by node, so that those of a variant are among those of the line;
+//! It needs no code but to ask what a project's type keeps, and rests on three things: `unit_facts`, whose
+//! `specs/Diagnostics.antt` says that a pair of a site and a rule without an entry breaks under no valid selection, and where the
+//! pairs of a project are listed node by node, so that those of a variant are among those of the line;
 //! `feature_views`, whose variants keep what a project keeps; and `plain_fj`, whose law is that a project is well typed exactly
 //! where no rule breaks in it. Typing and projection are those of `cfj_model`.
 //!

@@ -15,7 +15,7 @@ use Rattle.cfj_model.specs.declared.class.Method.{Method}
 use Rattle.cfj_model.specs.declared.class.Param.{Param}
 use Rattle.cfj_words.specs.Lists.{Has}
 use Rattle.class_table.proofs.Members.{filter_has, find_has, has_left, has_map, has_rest, has_right, name_is}
-use Rattle.plain_judge.specs.Pairs.{method_pairs}
+use Rattle.unit_facts.specs.Pairs.{method_pairs}
 use Rattle.unit_facts.specs.Facts.{Contents, Head, fact, head_at, head_of, method_at, method_is, signatures_at, signatures_in, signatures_of}
 use Rattle.unit_facts.specs.Judgements.{IsSameFor, SameFacts}
 use Rattle.unit_facts.specs.Reach.{InMethodReach, InReach, MethodReaches, Reaches, methods_asked, methods_called_by}

@@ -1,14 +1,16 @@
 -- What a project keeps, and what equal facts tell of two projects.
-use Rattle.std.proofs.Common.{◌≡◌, ◌⊎◌, inl, inr, ℕ, Bool, true, false, not, List, [], ◌∷◌, ◌++◌, map, Option, None, Some, option_map, refl, sym, ◌∙◌, ap, subst}
+use Rattle.std.proofs.Common.{◌≡◌, ◌⊎◌, inl, inr, ℕ, Bool, true, false, not, ◌&&◌, nat_le, List, [], ◌∷◌, ◌++◌, length, map, Option, None, Some, option_map, refl, sym, ◌∙◌, ap, subst}
 use Rattle.std.specs.List.{list_all}
 use Rattle.std.specs.Str.{bytes_eq}
 use Rattle.std.proofs.lemmas.Bool.{and_parts, not-true}
 use Rattle.cfj_model.specs.Coloring.{Palette, are_known, palette_of}
+use Rattle.cfj_model.specs.Expressions.{slots}
 use Rattle.cfj_model.specs.LookUps.{Table, declared, is_called}
-use Rattle.cfj_model.specs.Members.{method_alts_rise}
-use Rattle.cfj_model.specs.ProductLines.{IsProject, ProductLine, are_fields, are_methods, is_class, is_ctor, is_method, most_methods, object}
+use Rattle.cfj_model.specs.Members.{field_alts_rise, method_alts_rise}
+use Rattle.cfj_model.specs.ProductLines.{IsProject, ProductLine, are_distinct, are_fields, are_methods, are_params, are_sents, is_body, is_class, is_ctor, is_field, is_method, is_param, most_in_ctor, most_params, object, rise_from}
 use Rattle.cfj_model.specs.declared.class.Class.{Class}
 use Rattle.cfj_model.specs.declared.class.Method.{Method}
+use Rattle.cfj_model.specs.declared.class.Param.{Param}
 use Rattle.cfj_words.specs.Lists.{Has}
 use Rattle.cfj_words.specs.Names.{is_short_identifier}
 use Rattle.class_table.proofs.Without.{declared_has}
@@ -18,10 +20,32 @@ use Rattle.unit_facts.specs.Reach.{IsAbove, IsNotObject, MethodReaches, Reaches,
 
 -- ---- what a project keeps
 
--- a class isn't called `Object`, and the alts of its methods rise
+-- the slots of a method's parameters and nodes rise
+pub record IsMethodKept (m : Method) : Type 0 where
+  pub params : rise_from 0 (map (λ (p : Param). p.slot) m.params) ≡ true
+  pub nodes : rise_from 0 (slots m.body) ≡ true
+
+-- A class isn't called `Object`, the alts of its members rise, and so do the slots in it.
 pub record IsKept (k : Class) : Type 0 where
   pub other : bytes_eq k.name object ≡ false
   pub rise : method_alts_rise k.methods ≡ true
+  pub fields_rise : field_alts_rise k.fields ≡ true
+  pub takes : rise_from 0 (map (λ (p : Param). p.slot) k.ctor.params) ≡ true
+  pub methods : (m : Method) → Has k.methods m → IsMethodKept m
+
+params_rise : (most : ℕ) (palette : Palette) (ps : List Param) → are_params most palette ps ≡ true → rise_from 0 (map (λ (p : Param). p.slot) ps) ≡ true
+params_rise most palette ps e =
+    let a = and_parts (nat_le (length ps) most && rise_from 0 (map (λ (p : Param). p.slot) ps)) (list_all (is_param palette) ps) e in
+    (and_parts (nat_le (length ps) most) (rise_from 0 (map (λ (p : Param). p.slot) ps)) a.0).1
+
+method_kept : (palette : Palette) (m : Method) → is_method palette m ≡ true → IsMethodKept m
+unfolding is_method
+method_kept palette m e =
+    let a = and_parts _ (is_body palette m.body) e in
+    let b = and_parts _ (are_distinct (map (λ (p : Param). p.name) m.params)) a.0 in
+    let c = and_parts _ (are_params most_params palette m.params) b.0 in
+    let d = and_parts _ (rise_from 0 (slots m.body)) a.1 in
+    record { params = params_rise most_params palette m.params c.1; nodes = d.1 }
 
 class_kept : (palette : Palette) (k : Class) → is_class palette k ≡ true → IsKept k
 unfolding is_class
@@ -34,7 +58,17 @@ class_kept palette k e =
     let g = and_parts _ (not (bytes_eq k.name object)) f.0 in
     let h = and_parts _ (list_all (is_method palette) k.methods) a.1 in
     let i = and_parts _ (method_alts_rise k.methods) h.0 in
-    record { other = not-true (bytes_eq k.name object) g.1; rise = i.1 }
+    let l = and_parts _ (list_all (is_field palette) k.fields) c.1 in
+    let n = and_parts _ (field_alts_rise k.fields) l.0 in
+    let o = and_parts _ (are_sents palette k.ctor.assigns) b.1 in
+    let r = and_parts (are_params most_in_ctor palette k.ctor.params) (are_sents palette k.ctor.sends) o.0 in
+    record {
+      other = not-true (bytes_eq k.name object) g.1;
+      rise = i.1;
+      fields_rise = n.1;
+      takes = params_rise most_in_ctor palette k.ctor.params r.0;
+      methods = λ m at. method_kept palette m (all_has (is_method palette) k.methods h.1 m at);
+    }
 
 pub kept_class : (q : ProductLine) → IsProject q → (k : Class) → Has q.classes k → IsKept k
 kept_class q project k h = class_kept (palette_of q.model) k (all_has (is_class (palette_of q.model)) q.classes project.each_class k h)

@@ -12,8 +12,8 @@ use Rattle.cfj_model.specs.declared.class.Method.{Method}
 use Rattle.cfj_model.specs.declared.site.Rule.TheVariants.{K1, K2}
 use Rattle.cfj_model.specs.declared.site.Site.TheVariants as site
 use Rattle.class_table.proofs.Without.{declared_name}
-use Rattle.plain_judge.specs.Pairs.{ctor_pairs, field_pairs, method_pairs, pairs_at}
-use Rattle.plain_judge.proofs.ProjectPairs.{ctor_listed, method_listed, pairs_append, placed_pairs}
+use Rattle.unit_facts.specs.Pairs.{ctor_pairs, field_pairs, method_pairs, pairs_at}
+use Rattle.unit_facts.proofs.ProjectPairs.{ctor_listed, method_listed, pairs_append, placed_pairs}
 use Rattle.unit_facts.specs.Facts.{method_at, own_at, own_of}
 use Rattle.unit_facts.specs.Units.{judged_own, method_in, of_some, unit_pairs}
 use Rattle.unit_facts.specs.declared.unit.Unit.TheVariants as unit

@@ -5,9 +5,8 @@
 //! unit reaches in one of them judge the unit alike, in every variant; so a judgement that is right for one project is honest. And the
 //! units of a project together make up the project: its pairs and its entries are theirs, joined in their order.
 //!
-//! The proofs rest on `feature_views`, whose variants keep what a project keeps, on `plain_judge`, where pairs are listed node by node,
-//! and on what `plain_fj` shows of look-ups. `proofs/SeenChains.antt` has the heart of it: a look-up sees a class only as others see it,
-//! and the facts say how that is.
+//! The proofs rest on `feature_views`, whose variants keep what a project keeps, and on what `plain_fj` shows of lists and of tables.
+//! `proofs/SeenChains.antt` has the heart of it: a look-up sees a class only as others see it, and the facts say how that is.
 #![tactic(auto)]
 
 mod laws;

@@ -8,7 +8,6 @@ pub mod LookedUp
 pub mod Mirroring
 pub mod Mirrors
 pub mod Places
-pub mod ProjectPairs
 pub mod SameParts
 pub mod Sought
 pub mod Spending

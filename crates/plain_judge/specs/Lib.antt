@@ -3,7 +3,6 @@ pub mod Concluding
 pub mod Denials
 pub mod Order
 pub mod PairParts
-pub mod Pairs
 pub mod Questions
 pub mod Searching
 pub mod SiteParts

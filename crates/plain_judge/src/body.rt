@@ -3,7 +3,7 @@
 ghost use Rattle.std.specs.Prelude.{◌≡◌, ◌∷◌, ◌++◌, OnOk};
 ghost use Rattle.cfj_model.specs.Judging.{insert_ranked, rank};
 ghost use Rattle.plain_judge.specs.BodySites.{node_site};
-ghost use Rattle.plain_judge.specs.Pairs.{pairs_at};
+ghost use Rattle.unit_facts.specs.Pairs.{pairs_at};
 
 use crate::site_rules::{add, count_lower};
 use cfj_model::{Name, Rule, Site, SiteRef};

@@ -2,7 +2,7 @@
 
 ghost use Rattle.std.specs.Prelude.{◌≡◌, ◌++◌, OnOk};
 ghost use Rattle.plain_judge.specs.BodySites.{node_site};
-ghost use Rattle.plain_judge.specs.Pairs.{arg_pairs, node_pairs};
+ghost use Rattle.unit_facts.specs.Pairs.{arg_pairs, node_pairs};
 
 use crate::body::Body;
 use cfj_model::{Arg, Expr, Rule, Site};

@@ -2,7 +2,7 @@
 
 ghost use Rattle.std.specs.Prelude.{◌≡◌, ◌++◌, [], IfOk, OnOk, flat_map};
 ghost use Rattle.cfj_model.specs.Judging.{pairs_of};
-ghost use Rattle.plain_judge.specs.Pairs as spec;
+ghost use Rattle.unit_facts.specs.Pairs as spec;
 
 use crate::body::Body;
 use crate::nodes::add_nodes;

@@ -3,7 +3,7 @@
 ghost use Rattle.std.specs.Prelude.{◌≡◌, ◌≤◌, ◌∷◌, ◌++◌, OnOk, drop, length, take};
 ghost use Rattle.cfj_model.specs.Judging.{insert_ranked, rank};
 ghost use Rattle.cfj_model.specs.Sites.{site_ref_seen};
-ghost use Rattle.plain_judge.specs.Pairs.{pairs_at};
+ghost use Rattle.unit_facts.specs.Pairs.{pairs_at};
 
 use cfj_model::{Rule, Site, SiteRef};
 use std::alloc::{AllocError, Global};

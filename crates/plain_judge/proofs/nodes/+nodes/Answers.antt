@@ -2,9 +2,9 @@ use Rattle.std.proofs.Common.{[], ◌∷◌, ◌++◌, sym, ◌∙◌, ap}
 use Rattle.cfj_model.specs.Judging.{insert_ranked, rank}
 use Rattle.cfj_model.specs.declared.site.Rule.TheVariants.{K1, E3, E4, E5, E6, E7, E8}
 use Rattle.plain_judge.specs.BodySites.{node_site}
-use Rattle.plain_judge.specs.Pairs.{arg_pairs, node_pairs, pairs_at}
+use Rattle.unit_facts.specs.Pairs.{arg_pairs, node_pairs, pairs_at}
 use Rattle.plain_judge.proofs.Growing.{two_added, three_added}
-use Rattle.plain_judge.proofs.ProjectPairs.{node_call, node_new, node_cast}
+use Rattle.unit_facts.proofs.ProjectPairs.{node_call, node_new, node_cast}
 use Rattle.plain_judge.proofs.nodes.+nodes.Goals as goal
 
 pub add_nodes-returns-in_ok-add-in-Call : goal.add_nodes-returns-in_ok-add-in-Call

@@ -1,5 +1,5 @@
 use Rattle.plain_judge.specs.BodySites.{node_site}
-use Rattle.plain_judge.specs.Pairs.{arg_pairs}
+use Rattle.unit_facts.specs.Pairs.{arg_pairs}
 use Rattle.std.proofs.Common.{◌≡◌, ◌++◌, drop}
 use Rattle.plain_judge.proofs.nodes.+nodes.Given as goal
 

@@ -1,4 +1,4 @@
-use Rattle.plain_judge.specs.Pairs.{ctor_param_pairs}
+use Rattle.unit_facts.specs.Pairs.{ctor_param_pairs}
 use Rattle.plain_judge.proofs.Growing.{IsGrownUpTo}
 use Rattle.plain_judge.proofs.pairs.add_ctor_params.Given as goal
 

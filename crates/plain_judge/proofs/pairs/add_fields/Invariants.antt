@@ -1,4 +1,4 @@
-use Rattle.plain_judge.specs.Pairs.{field_pairs}
+use Rattle.unit_facts.specs.Pairs.{field_pairs}
 use Rattle.plain_judge.proofs.Growing.{IsGrownUpTo}
 use Rattle.plain_judge.proofs.pairs.add_fields.Given as goal
 

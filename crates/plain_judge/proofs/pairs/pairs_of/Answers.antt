@@ -1,7 +1,7 @@
 use Rattle.std.proofs.Common.{◌≤◌, [], length, sym, ◌∙◌, arith}
-use Rattle.plain_judge.specs.Pairs.{class_pairs}
+use Rattle.unit_facts.specs.Pairs.{class_pairs}
 use Rattle.plain_judge.proofs.Growing.{drop_get, grown_more, grown_all}
-use Rattle.plain_judge.proofs.ProjectPairs.{project_listed}
+use Rattle.unit_facts.proofs.ProjectPairs.{project_listed}
 use Rattle.plain_judge.proofs.pairs.pairs_of.Goals as goal
 
 pub each-preserved : goal.each-preserved

@@ -1,5 +1,5 @@
 use Rattle.std.proofs.Common.{[]}
-use Rattle.plain_judge.specs.Pairs.{class_pairs}
+use Rattle.unit_facts.specs.Pairs.{class_pairs}
 use Rattle.plain_judge.proofs.Growing.{IsGrownUpTo}
 use Rattle.plain_judge.proofs.pairs.pairs_of.Given as goal
 

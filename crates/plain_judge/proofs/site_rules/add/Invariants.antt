@@ -1,6 +1,6 @@
 use Rattle.std.proofs.Common.{◌≡◌, ◌++◌, drop}
 use Rattle.cfj_model.specs.Sites.{site_ref_seen}
-use Rattle.plain_judge.specs.Pairs.{pairs_at}
+use Rattle.unit_facts.specs.Pairs.{pairs_at}
 use Rattle.plain_judge.proofs.site_rules.add.Given as goal
 
 abbrev pub invariant-each : goal.invariant-each

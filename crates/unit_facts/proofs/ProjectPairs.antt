@@ -19,7 +19,7 @@ use Rattle.cfj_model.specs.declared.site.Rule.{Rule}
 use Rattle.cfj_model.specs.declared.site.Rule.TheVariants.{K1, K2, K4, K5, K6, K7, K8, K9, E1, E2, E3, E4, E5, E6, E7, E8}
 use Rattle.cfj_model.specs.declared.site.Site.{Site}
 use Rattle.cfj_model.specs.declared.site.Site.TheVariants as site
-use Rattle.plain_judge.specs.Pairs.{arg_pairs, class_pairs, ctor_pairs, ctor_param_pairs, field_pairs, method_pairs, node_pairs, node_pairs_step, pairs_at, param_pairs, project_pairs}
+use Rattle.unit_facts.specs.Pairs.{arg_pairs, class_pairs, ctor_pairs, ctor_param_pairs, field_pairs, method_pairs, node_pairs, node_pairs_step, pairs_at, param_pairs, project_pairs}
 
 -- ---- nodes, variant by variant
 

@@ -1,0 +1,120 @@
+-- The nodes of a judged body stand at its slots, and the rules of each in their order.
+use Rattle.std.proofs.Common.{◌≡◌, ◌⊎◌, inl, inr, ℕ, Bool, true, false, List, [], ◌∷◌, ◌++◌, map, refl, sym, ◌∙◌, ap, ap₂, subst}
+use Rattle.std.specs.List.{flat_map}
+use Rattle.std.specs.Prelude.{⊤}
+use Rattle.std.proofs.lemmas.List.{map-append}
+use Rattle.cfj_model.proofs.ExprCases.{Proved, args_of, by_cases, fold_var, fold_get, fold_call, fold_new, fold_cast, of_arg}
+use Rattle.cfj_model.specs.Expressions as expressions
+use Rattle.cfj_model.specs.Expressions.{slots, slots_step}
+use Rattle.cfj_model.specs.Judging.{JudgedExpr, Ruling, argument_rules, judged_arg, judged_expr, judged_step, rank, with_ruling}
+use Rattle.cfj_model.specs.LookUps.{Table}
+use Rattle.cfj_model.specs.ProductLines.{rise_from}
+use Rattle.cfj_model.specs.Typing.{Environment}
+use Rattle.cfj_model.specs.declared.expr.Arg.{Arg}
+use Rattle.cfj_model.specs.declared.expr.Expr.{Expr}
+use Rattle.cfj_model.specs.declared.expr.Expr.TheVariants as e
+use Rattle.cfj_model.specs.declared.site.Rule.{Rule}
+use Rattle.cfj_model.specs.declared.site.Rule.TheVariants.{K1, E1, E2, E3, E4, E5, E6, E7, E8}
+use Rattle.locality_law.proofs.Items.{Each, each_both}
+
+-- what the node round it may judge at a root
+pub data IsMore : List Ruling → Type 0 where
+  no_more : IsMore []
+  of_call : (b : Bool) → IsMore ((E5, b) ∷ [])
+  of_new : (b : Bool) → IsMore ((E7, b) ∷ [])
+
+-- the rules rise in their order
+abbrev pub AreRanked : ℕ × List Ruling → Type 0
+AreRanked n = rise_from 0 (map (λ (v : Ruling). rank v.0) n.1) ≡ true
+
+-- ---- the rules at a node
+
+abbrev ranks : List Ruling → List ℕ
+ranks vs = map (λ (v : Ruling). rank v.0) vs
+
+var_ranked : (more : List Ruling) → IsMore more → (b : Bool) → rise_from 0 (ranks ((E1, b) ∷ more)) ≡ true
+var_ranked _ IsMore.no_more b = refl
+var_ranked _ (IsMore.of_call c) b = refl
+var_ranked _ (IsMore.of_new c) b = refl
+
+get_ranked : (more : List Ruling) → IsMore more → (b : Bool) → rise_from 0 (ranks ((E2, b) ∷ more)) ≡ true
+get_ranked _ IsMore.no_more b = refl
+get_ranked _ (IsMore.of_call c) b = refl
+get_ranked _ (IsMore.of_new c) b = refl
+
+call_ranked : (more : List Ruling) → IsMore more → (b d : Bool) → rise_from 0 (ranks ((E3, b) ∷ ((E4, d) ∷ more))) ≡ true
+call_ranked _ IsMore.no_more b d = refl
+call_ranked _ (IsMore.of_call c) b d = refl
+call_ranked _ (IsMore.of_new c) b d = refl
+
+new_ranked : (more : List Ruling) → IsMore more → (b d : Bool) → rise_from 0 (ranks ((K1, b) ∷ with_ruling (E6, d) more)) ≡ true
+new_ranked _ IsMore.no_more b d = refl
+new_ranked _ (IsMore.of_call c) b d = refl
+new_ranked _ (IsMore.of_new c) b d = refl
+
+cast_ranked : (more : List Ruling) → IsMore more → (b d : Bool) → rise_from 0 (ranks ((K1, b) ∷ with_ruling (E8, d) more)) ≡ true
+cast_ranked _ IsMore.no_more b d = refl
+cast_ranked _ (IsMore.of_call c) b d = refl
+cast_ranked _ (IsMore.of_new c) b d = refl
+
+module _ (p : Table) (g : Environment) where
+  -- the nodes' slots, and the ranks of their rules
+  abbrev pub StandsAt : Expr → List Ruling → Type 0
+  StandsAt x more = (map (λ (n : ℕ × List Ruling). n.0) ((judged_expr p g x).rules more) ≡ slots x) × Each AreRanked ((judged_expr p g x).rules more)
+
+  abbrev Stands : Expr → Type 0
+  Stands x = (more : List Ruling) → IsMore more → StandsAt x more
+
+  abbrev judged_of : Arg → JudgedExpr
+  judged_of = of_arg JudgedExpr JudgedExpr (judged_step p g) judged_arg
+
+  abbrev slots_of : Arg → List ℕ
+  slots_of = of_arg (List ℕ) (List ℕ) slots_step expressions.of_arg
+
+  abbrev AreAt : List (ℕ × List Ruling) → List ℕ → Type 0
+  AreAt ns ss = (map (λ (n : ℕ × List Ruling). n.0) ns ≡ ss) × Each AreRanked ns
+
+  both_at : (ns ms : List (ℕ × List Ruling)) (ss ts : List ℕ) → AreAt ns ss → AreAt ms ts → AreAt (ns ++ ms) (ss ++ ts)
+  both_at ns ms ss ts a b = (map-append (λ (n : ℕ × List Ruling). n.0) ns ms ∙ ap₂ (λ x y. x ++ y) a.0 b.0, each_both AreRanked ns ms a.1 b.1)
+
+  one_at : (slot : ℕ) (vs : List Ruling) (ms : List (ℕ × List Ruling)) (ts : List ℕ) → AreRanked (slot, vs) → AreAt ms ts → AreAt ((slot, vs) ∷ ms) (slot ∷ ts)
+  one_at slot vs ms ts h b = (ap (λ w. slot ∷ w) b.0, (h, b.1))
+
+  as_at : (ns ms : List (ℕ × List Ruling)) (ss ts : List ℕ) → ns ≡ ms → ss ≡ ts → AreAt ms ts → AreAt ns ss
+  as_at ns ms ss ts e f h = subst (λ w. AreAt w ss) (sym e) (subst (AreAt ms) (sym f) h)
+
+  args_at : (rule : Rule) → ((b : Bool) → IsMore ((rule, b) ∷ [])) → (ys : List (Proved Stands)) (bs : List Bool)
+      → AreAt (argument_rules rule (map judged_of (args_of Stands ys)) bs) (flat_map (λ s. s) (map slots_of (args_of Stands ys)))
+  args_at rule is [] bs = (refl, tt)
+  args_at rule is (y ∷ ys) [] =
+      both_at ((judged_of y.0).rules ((rule, false) ∷ [])) (argument_rules rule (map judged_of (args_of Stands ys)) []) (slots y.0.expr) (flat_map (λ s. s) (map slots_of (args_of Stands ys)))
+      (y.1 ((rule, false) ∷ []) (is false)) (args_at rule is ys [])
+  args_at rule is (y ∷ ys) (b ∷ bs) =
+      both_at ((judged_of y.0).rules ((rule, b) ∷ [])) (argument_rules rule (map judged_of (args_of Stands ys)) bs) (slots y.0.expr) (flat_map (λ s. s) (map slots_of (args_of Stands ys)))
+      (y.1 ((rule, b) ∷ []) (is b)) (args_at rule is ys bs)
+
+  pub stands : (x : Expr) (more : List Ruling) → IsMore more → StandsAt x more
+  stands = by_cases Stands (record {
+    var_case = λ slot name more is.
+        as_at _ _ _ (slot ∷ []) (ap (λ (j : JudgedExpr). j.rules more) (fold_var JudgedExpr JudgedExpr (judged_step p g) judged_arg slot name)) (fold_var (List ℕ) (List ℕ) slots_step expressions.of_arg slot name)
+        (one_at slot _ [] [] (var_ranked more is _) (refl, tt));
+    get_case = λ slot on part field more is.
+        as_at _ _ _ (slots on ++ slot ∷ []) (ap (λ (j : JudgedExpr). j.rules more) (fold_get JudgedExpr JudgedExpr (judged_step p g) judged_arg slot on field))
+        (fold_get (List ℕ) (List ℕ) slots_step expressions.of_arg slot on field)
+        (both_at _ _ (slots on) (slot ∷ []) (part [] no_more) (one_at slot _ [] [] (get_ranked more is _) (refl, tt)));
+    call_case = λ slot on part m ys more is.
+        as_at _ _ _ (slots on ++ slot ∷ flat_map (λ s. s) (map slots_of (args_of Stands ys)))
+        (ap (λ (j : JudgedExpr). j.rules more) (fold_call JudgedExpr JudgedExpr (judged_step p g) judged_arg slot on m (args_of Stands ys)))
+        (fold_call (List ℕ) (List ℕ) slots_step expressions.of_arg slot on m (args_of Stands ys))
+        (both_at _ _ (slots on) (slot ∷ flat_map (λ s. s) (map slots_of (args_of Stands ys))) (part [] no_more)
+        (one_at slot _ _ (flat_map (λ s. s) (map slots_of (args_of Stands ys))) (call_ranked more is _ _) (args_at E5 of_call ys _)));
+    new_case = λ slot c ys more is.
+        as_at _ _ _ (slot ∷ flat_map (λ s. s) (map slots_of (args_of Stands ys)))
+        (ap (λ (j : JudgedExpr). j.rules more) (fold_new JudgedExpr JudgedExpr (judged_step p g) judged_arg slot c (args_of Stands ys)))
+        (fold_new (List ℕ) (List ℕ) slots_step expressions.of_arg slot c (args_of Stands ys))
+        (one_at slot _ _ (flat_map (λ s. s) (map slots_of (args_of Stands ys))) (new_ranked more is _ _) (args_at E7 of_new ys _));
+    cast_case = λ slot c on part more is.
+        as_at _ _ _ (slot ∷ slots on) (ap (λ (j : JudgedExpr). j.rules more) (fold_cast JudgedExpr JudgedExpr (judged_step p g) judged_arg slot c on))
+        (fold_cast (List ℕ) (List ℕ) slots_step expressions.of_arg slot c on)
+        (one_at slot _ _ (slots on) (cast_ranked more is _ _) (part [] no_more));
+  })

@@ -1,12 +1,11 @@
 -- No public contract cites this: it serves the proofs.
 -- What the tests know of the clauses that they ask about.
-use Rattle.std.specs.Prelude.{◌≡◌, ℕ, ◌≤◌}
+use Rattle.std.specs.Prelude.{◌≡◌, ℕ}
 use Rattle.cfj_logic.specs.declared.clauses.Clauses.{Clauses}
 use Rattle.cfj_logic.specs.Logs.{AreWellFormed, AreSettledByFeatures}
 
--- clauses over a few features that a solver and a checker of logs may be asked about
+-- clauses over so many features that a solver and a checker of logs may be asked about
 pub record IsQuestion (features : ℕ) (clauses : Clauses) : Type 0 where
-  pub few : features ≤ 8
   pub over : clauses.features ≡ features
   pub formed : AreWellFormed clauses
   pub settled : AreSettledByFeatures clauses

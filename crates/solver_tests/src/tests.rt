@@ -7,6 +7,7 @@ ghost use Rattle.solver_tests.specs.Questions.{IsQuestion};
 mod corrupted;
 mod gates;
 mod logs;
+mod many_features;
 mod numbers;
 mod searches;
 
@@ -19,7 +20,7 @@ use std::alloc::{AllocError, Global};
 /// The largest budget of a search.
 const BUDGET: u32 = 20_000;
 
-/// The most features in a test.
+/// The most features in a test that goes through all selections.
 const MOST_FEATURES: u8 = 8;
 
 fn feat(feature: u8) -> Formula {
@@ -104,7 +105,7 @@ fn clauses_for(
 ) -> Result<Option<Clauses>, AllocError>
     ensures { IfOk result (λ found. IfSome found (λ clauses. IsQuestion features clauses)) }
 {
-    if features > MOST_FEATURES {
+    if features > 128 {
         return Ok(None);
     }
     if !fits(features, formula) {

@@ -98,7 +98,8 @@ fn proves_alone(
     log: &Log,
     least: u32,
 ) -> Result<bool, AllocError>
-    requires { IsQuestion features clauses.now }
+    requires few { features ≤ 8 }
+    requires question { IsQuestion features clauses.now }
 {
     let mut agrees = true;
     'selections: for on in 0..1u32 << features {

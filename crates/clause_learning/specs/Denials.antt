@@ -1,5 +1,6 @@
 -- What marked variables deny.
-use Rattle.std.specs.Prelude.{◌≡◌, ℕ, ◌+◌, ◌<◌, ◌≤◌, Bool, true, false, not, ◌⊎◌, if◌then◌else◌, Option, Some, None, IfSome, IfNone, bit_and}
+use Rattle.std.specs.Prelude.{◌≡◌, ℕ, ◌+◌, ◌<◌, ◌≤◌, Bool, true, false, not, ◌⊎◌, if◌then◌else◌, bit_and}
+use Rattle.std.specs.Prelude.{Option, Some, None, IfSome, IfNone}
 use Rattle.std.specs.Prelude.{List, [], ◌∷◌, length, take, get_or, slice_get, slice_set}
 use Rattle.cfj_logic.specs.declared.clauses.Literal.{Literal}
 use Rattle.cfj_logic.specs.Selections.{has_bit}

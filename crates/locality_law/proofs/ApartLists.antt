@@ -50,9 +50,10 @@ alts_apart (m ∷ ms) e = (never, alts_apart ms parts.1)
 
 alone_apart : (ns : List (List ℕ)) → ((n : List ℕ) → IsAlone (λ m. bytes_eq m n) ns) → AreApart ns
 alone_apart [] h = tt
-alone_apart (n ∷ ns) h =
-    (λ here. let differs = find_none (λ m. bytes_eq m n) ns ((h n).0 (is_name n n refl)) n here in let none : ⊥ = cc (sym (is_name n n refl) ∙ differs) in none,
-    alone_apart ns (λ m. (h m).1))
+alone_apart (n ∷ ns) h = (
+  λ here. let differs = find_none (λ m. bytes_eq m n) ns ((h n).0 (is_name n n refl)) n here in let none : ⊥ = cc (sym (is_name n n refl) ∙ differs) in none,
+  alone_apart ns (λ m. (h m).1),
+)
 
 pub names_apart : {A : Type 0} (key : A → List ℕ) (xs : List A) → are_distinct (map key xs) ≡ true → AreApart (map key xs)
 names_apart {A} key xs e = alone_apart (map key xs) (λ n. alone_mapped n xs (distinct_alone key n xs e))

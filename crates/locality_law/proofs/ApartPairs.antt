@@ -148,10 +148,20 @@ module _ (p : Table) (k : Class) where
   of_method : (P : Site → Type 0) (q : Placed Method) → P (site.Method k.name q.item.name q.item.alt) → ((i : ℕ) → P (site.Param k.name q.item.name q.item.alt i)) → ((i : ℕ) → P (site.Node k.name q.item.name q.item.alt i))
       → AtSites P (judged_method p k q)
   of_method P q own params body =
-      let m : Method = q.item in
-      (own, (own, (own, (own,
-      each_both (λ (j : RuleAt). P j.site) (flat_map (param_rules m) m.params) (flat_map (node_rules m) (nodes m)) (at_all P (param_rules m) m.params (λ a. (params a.slot, tt)))
-      (at_all P (node_rules m) (nodes m) (λ n. at_one P (site.Node k.name m.name m.alt n.0) (body n.0) n.1))))))
+      let m : Method = q.item in (
+        own,
+        (
+          own,
+          (
+            own,
+            (
+              own,
+              each_both (λ (j : RuleAt). P j.site) (flat_map (param_rules m) m.params) (flat_map (node_rules m) (nodes m)) (at_all P (param_rules m) m.params (λ a. (params a.slot, tt)))
+                  (at_all P (node_rules m) (nodes m) (λ n. at_one P (site.Node k.name m.name m.alt n.0) (body n.0) n.1)),
+            ),
+          ),
+        ),
+      )
 
   abbrev behind_fields : List RuleAt
   behind_fields = judged_ctor p k ++ flat_map (judged_method p k) (placed k.methods)
@@ -259,10 +269,14 @@ module _ (p : Table) (k : Class) (kept : IsKept k) where
 
 class_label : (p : Table) (k : Class) → AtSites (λ s. class_of s ≡ k.name) (judged_class p k)
 class_label p k =
-    let P : Site → Type 0 = λ s. class_of s ≡ k.name in
-    (refl, (refl,
-    each_both (λ (j : RuleAt). P j.site) (flat_map (judged_field p k) (placed k.fields)) (behind_fields p k) (of_fields p k P (λ f alt. refl))
-    (of_behind p k P refl (λ i. refl) (λ m alt. refl) (λ m alt i. refl) (λ m alt i. refl))))
+    let P : Site → Type 0 = λ s. class_of s ≡ k.name in (
+      refl,
+      (
+        refl,
+        each_both (λ (j : RuleAt). P j.site) (flat_map (judged_field p k) (placed k.fields)) (behind_fields p k) (of_fields p k P (λ f alt. refl))
+            (of_behind p k P refl (λ i. refl) (λ m alt. refl) (λ m alt i. refl) (λ m alt i. refl)),
+      ),
+    )
 
 -- ---- a project
 

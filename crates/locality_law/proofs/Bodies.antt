@@ -95,10 +95,10 @@ judged_by_sig p slot on m args = go (called p on.type (types_of (map (λ a. a.ty
 
     go : (d : Option Method)
         → (let f : Fit = fit_of p args ts (option_map (λ (d : Method). param_types d.params) d) in
-            let j : JudgedExpr = record {
-              type = result_type (fits f) d;
-              rules = λ more. on.rules [] ++ (slot, (E3, is_some on.type && is_some ts && not (is_some d)) ∷ (E4, f.differs) ∷ more) ∷ argument_rules E5 args f.misfits;
-            } in j) ≡ call_by p slot on args ts (option_map sig_seen d)
+        let j : JudgedExpr = record {
+          type = result_type (fits f) d;
+          rules = λ more. on.rules [] ++ (slot, (E3, is_some on.type && is_some ts && not (is_some d)) ∷ (E4, f.differs) ∷ more) ∷ argument_rules E5 args f.misfits;
+        } in j) ≡ call_by p slot on args ts (option_map sig_seen d)
     go None = refl
     go (Some d) = refl
 

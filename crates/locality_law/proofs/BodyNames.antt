@@ -82,10 +82,12 @@ module _ (K : List ℕ → Type 0) (s : Chosen) where
     call_case = λ slot on part m ys around h.
         let args = args_of KeepsCalls ys in
         let parts : Each K (m ∷ (methods_called_by on ++ calls_of_args args)) = subst (Each K) (calls_call slot on m args) h in
-        subst (Each K) (sym (ap methods_called_by (projected_call s around slot on m args) ∙ calls_call slot (projected_expr s around on) m (projected_args s around args)))
-        (parts.0, each_both K (methods_called_by (projected_expr s around on)) (calls_of_args (projected_args s around args))
-        (part around (each_left K (methods_called_by on) (calls_of_args args) parts.1))
-        (calls_kept around ys (each_right K (methods_called_by on) (calls_of_args args) parts.1)));
+        subst (Each K) (sym (ap methods_called_by (projected_call s around slot on m args) ∙ calls_call slot (projected_expr s around on) m (projected_args s around args))) (
+          parts.0,
+          each_both K (methods_called_by (projected_expr s around on)) (calls_of_args (projected_args s around args))
+              (part around (each_left K (methods_called_by on) (calls_of_args args) parts.1))
+              (calls_kept around ys (each_right K (methods_called_by on) (calls_of_args args) parts.1)),
+        );
     new_case = λ slot c ys around h.
         let args = args_of KeepsCalls ys in
         subst (Each K) (sym (ap methods_called_by (projected_new s around slot c args) ∙ calls_new slot c (projected_args s around args)))

@@ -64,11 +64,21 @@ method_inside p k q =
     let m : Method = q.item in
     let u = unit.Method k.name m.name m.alt in
     let params = flat_map (λ (a : Param). judged_at (site.Param k.name m.name m.alt a.slot) ((K1, not (is_known p a.of)) ∷ [])) m.params in
-    let nodes = (judged_expr p (environment_of k m) m.body).rules [] in
-    (refl, (refl, (refl, (refl,
-    each_both (IsInside u) params (flat_map (λ (n : ℕ × List Ruling). judged_at (site.Node k.name m.name m.alt n.0) n.1) nodes)
-    (each_flat u (λ (a : Param). judged_at (site.Param k.name m.name m.alt a.slot) ((K1, not (is_known p a.of)) ∷ [])) m.params (λ a. (refl, tt)))
-    (each_flat u (λ (n : ℕ × List Ruling). judged_at (site.Node k.name m.name m.alt n.0) n.1) nodes (λ n. at_site u (site.Node k.name m.name m.alt n.0) refl n.1))))))
+    let nodes = (judged_expr p (environment_of k m) m.body).rules [] in (
+      refl,
+      (
+        refl,
+        (
+          refl,
+          (
+            refl,
+            each_both (IsInside u) params (flat_map (λ (n : ℕ × List Ruling). judged_at (site.Node k.name m.name m.alt n.0) n.1) nodes)
+                (each_flat u (λ (a : Param). judged_at (site.Param k.name m.name m.alt a.slot) ((K1, not (is_known p a.of)) ∷ [])) m.params (λ a. (refl, tt)))
+                (each_flat u (λ (n : ℕ × List Ruling). judged_at (site.Node k.name m.name m.alt n.0) n.1) nodes (λ n. at_site u (site.Node k.name m.name m.alt n.0) refl n.1)),
+          ),
+        ),
+      ),
+    )
 
 -- what is judged in a unit lies in it
 pub unit_inside : (p : Table) (u : Unit) (j : RuleAt) → Has (unit_judged p u) j → unit_of j.site ≡ u

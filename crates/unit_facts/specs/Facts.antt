@@ -79,7 +79,8 @@ abbrev pub own_at : Table → List ℕ → Option Class
 own_at p c = option_map own_of (declared p c)
 
 abbrev pub method_at : Table → List ℕ → List ℕ → ℕ → Option Method
-method_at p c m alt = option_and_then (λ k. option_map (λ (d : Placed Method). d.item) (method_in m alt k)) (declared p c)
+method_at p c m alt =
+    option_and_then (λ k. option_map (λ (d : Placed Method). d.item) (method_in m alt k)) (declared p c)
 
 -- ---- the fact at a key
 

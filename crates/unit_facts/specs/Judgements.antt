@@ -36,7 +36,8 @@ verdict_at v (unit.Method c m alt) = None
 -- entries that are lists joined in the order of these units, each exact for its unit
 pub data AreExactByUnits (line : ProductLine) (budget : ℕ) (v : Verdict) : List Unit → List Entry → Type 0 where
   no_units : AreExactByUnits line budget v [] []
-  one_unit : (u : Unit) (us : List Unit) (es fs : List Entry) → IsExactFor line budget u es (verdict_at v u) → AreExactByUnits line budget v us fs
+  one_unit : (u : Unit) (us : List Unit) (es fs : List Entry) → IsExactFor line budget u es (verdict_at v u)
+      → AreExactByUnits line budget v us fs
       → AreExactByUnits line budget v (u ∷ us) (es ++ fs)
 
 -- ---- judgements

@@ -20,13 +20,15 @@ use Rattle.cfj_model.specs.declared.site.Site.TheVariants as site
 abbrev pub pairs_at : Site → List Rule → List Pair
 pairs_at s rules = map (λ r. (s, r)) rules
 
--- The rules at an expression's nodes, by the sites of slots. Among those of its root stand the ones that the node round it judges
--- there.
+-- The rules at an expression's nodes, by the sites of slots. Among those of its root stand the ones that the node round
+-- it judges there.
 abbrev pub node_pairs_step : (ℕ → Site) → Expr-F (List Rule → List Pair) (List Rule → List Pair) → List Rule → List Pair
 node_pairs_step at (Expr-F.Var slot name) more = pairs_at (at slot) (E1 ∷ more)
 node_pairs_step at (Expr-F.Get slot on field) more = on [] ++ pairs_at (at slot) (E2 ∷ more)
-node_pairs_step at (Expr-F.Call slot on method args) more = on [] ++ (pairs_at (at slot) (E3 ∷ (E4 ∷ more)) ++ flat_map (λ a. a (E5 ∷ [])) args)
-node_pairs_step at (Expr-F.New slot class args) more = pairs_at (at slot) (K1 ∷ insert_ranked rank E6 more) ++ flat_map (λ a. a (E7 ∷ [])) args
+node_pairs_step at (Expr-F.Call slot on method args) more =
+    on [] ++ (pairs_at (at slot) (E3 ∷ (E4 ∷ more)) ++ flat_map (λ a. a (E5 ∷ [])) args)
+node_pairs_step at (Expr-F.New slot class args) more =
+    pairs_at (at slot) (K1 ∷ insert_ranked rank E6 more) ++ flat_map (λ a. a (E7 ∷ [])) args
 node_pairs_step at (Expr-F.Cast slot class on) more = pairs_at (at slot) (K1 ∷ insert_ranked rank E8 more) ++ on []
 
 abbrev pub node_pairs : (ℕ → Site) → Expr → List Rule → List Pair

@@ -46,13 +46,15 @@ signature_types gs = flat_map (λ (g : Signature). g.result ∷ map (λ (t : Tak
 
 -- ---- classes that are reached
 
--- The classes that are reached from these on: the superclass of a declared one, the types of its fields, and the results and parameter
--- types of each declaration in it of the methods that are asked for.
+-- the classes reached from these on, by superclasses, by field types and by signatures of the methods that are asked for
 pub data Reaches (p : Table) (starts asked : List (List ℕ)) : List ℕ → Type 0 where
   start : (n : List ℕ) → Has starts n → Reaches p starts asked n
-  superclass : (n : List ℕ) (h : Head) → Reaches p starts asked n → head_at p n ≡ Some h → Reaches p starts asked h.parent
-  field_type : (n t : List ℕ) (h : Head) → Reaches p starts asked n → head_at p n ≡ Some h → Has (types_of_fields h.fields) t → Reaches p starts asked t
-  method_type : (n t m : List ℕ) → Reaches p starts asked n → Has asked m → Has (signature_types (signatures_at p n m)) t → Reaches p starts asked t
+  superclass : (n : List ℕ) (h : Head) → Reaches p starts asked n → head_at p n ≡ Some h
+      → Reaches p starts asked h.parent
+  field_type : (n t : List ℕ) (h : Head) → Reaches p starts asked n → head_at p n ≡ Some h
+      → Has (types_of_fields h.fields) t → Reaches p starts asked t
+  method_type : (n t m : List ℕ) → Reaches p starts asked n → Has asked m
+      → Has (signature_types (signatures_at p n m)) t → Reaches p starts asked t
 
 -- a class, its superclass, and so on, whatever the colours
 pub data IsAbove (p : Table) (c : List ℕ) : List ℕ → Type 0 where
@@ -91,7 +93,8 @@ InMethodReach p c d (key.Own u) = u ≡ unit.Method c d.name d.alt
 abbrev pub InReach : ProductLine → Unit → Key → Type 0
 InReach q unit.Model k = k ≡ key.Model
 InReach q (unit.Class c) k = (own : Class) × (own_at q.classes c ≡ Some own) × InClassReach q.classes c own k
-InReach q (unit.Method c m alt) k = (d : Method) × (method_at q.classes c m alt ≡ Some d) × InMethodReach q.classes c d k
+InReach q (unit.Method c m alt) k =
+    (d : Method) × (method_at q.classes c m alt ≡ Some d) × InMethodReach q.classes c d k
 
 -- ---- the reach as a list
 
@@ -110,7 +113,8 @@ Rise (n ∷ ns) = IsBeforeAll n ns × Rise ns
 
 -- the model, the heads of these classes, these methods' signatures in each of them, and the unit itself
 abbrev pub keys_of : Unit → List (List ℕ) → List (List ℕ) → List Key
-keys_of u names methods = key.Model ∷ (map key.Head names ++ (flat_map (λ n. map (key.Sig n) methods) names ++ key.Own u ∷ []))
+keys_of u names methods =
+    key.Model ∷ (map key.Head names ++ (flat_map (λ n. map (key.Sig n) methods) names ++ key.Own u ∷ []))
 
 -- keys in order, each once
 pub record AreInOrder (u : Unit) (keys : List Key) : Type 0 where

@@ -1,7 +1,8 @@
--- The units of a project: its model, and each class and each method by itself. What is judged in each, and which pairs it has.
+-- The units of a project: its model, each class and each method by itself; what is judged in each, and its pairs.
 use Rattle.std.specs.Prelude.{ℕ, Bool, not, ◌&&◌, ◌==◌, List, [], ◌∷◌, ◌++◌, map, flat_map, find, Option, Some, None}
 use Rattle.std.specs.Str.{bytes_eq}
-use Rattle.cfj_model.specs.Judging.{RuleAt, Pair, extends_itself, judged_at, judged_ctor, judged_field, judged_method, pair_of}
+use Rattle.cfj_model.specs.Judging.{RuleAt, Pair, extends_itself, pair_of}
+use Rattle.cfj_model.specs.Judging.{judged_at, judged_ctor, judged_field, judged_method}
 use Rattle.cfj_model.specs.LookUps.{Table, declared, is_known}
 use Rattle.cfj_model.specs.Members.{Placed, placed}
 use Rattle.cfj_model.specs.ProductLines.{ProductLine}

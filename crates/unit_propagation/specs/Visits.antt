@@ -28,7 +28,8 @@ Settles cs vs ws place true = IsFalsifiedAt cs ws place
 Settles cs vs ws place false = (c : List Literal) → slice_get cs place ≡ Some c → IsTrueIn ws c ⊎ HasTwoUnvalued vs c
 
 -- the clause at this place now watches a literal that isn't false, in place of this one
-pub record IsMoved (cs : List (List Literal)) (vs : Values) (ps qs : List Pair) (lists : Lists) (l : Literal) (place : ℕ) : Type 0
+pub record IsMoved (cs : List (List Literal)) (vs : Values) (ps qs : List Pair) (lists : Lists) (l : Literal)
+    (place : ℕ) : Type 0
   where
     pub clause : List Literal
     pub pair : Pair

@@ -1,4 +1,3 @@
--- No public contract cites this: it serves the proofs.
 -- By literal, the places of clauses.
 use Rattle.std.specs.declared.alloc.Global.{Global}
 use Rattle.std.specs.Prelude.{Vec, ◌≡◌, ℕ, ◌<◌, Bool, ◌⊎◌, if◌then◌else◌, List, length, slice_get, Some}

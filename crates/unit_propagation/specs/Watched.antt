@@ -1,4 +1,3 @@
--- No public contract cites this: it serves the proofs.
 -- The literals of clauses that are watched.
 use Rattle.std.specs.Prelude.{◌≡◌, ℕ, ◌≤◌, ◌⊎◌, List, length, slice_get, Some}
 use Rattle.cfj_logic.specs.declared.clauses.Literal.{Literal}

@@ -1,7 +1,7 @@
 //! Cases that are parts of a run: a text that is read by itself.
 
 use case_files::{Answer, CaseFault, Content, Section, words_of};
-use cfj_model::{Member, ParseFault, Project, Site, read_site};
+use cfj_model::{Member, Name, ParseFault, Project, Site, read_site};
 use cide_io::MemSink;
 use command_words::{Asked, read_words};
 use fj_parser::{
@@ -187,7 +187,8 @@ fn marked_told(alloc: Global, kind: &str, text: &str) -> Result<Option<Answer>, 
     };
     Ok(match kind {
         "class" => Some(class_told(alloc, text, &project)?),
-        "constructor" => Some(constructor_told(alloc, text, &project)?),
+        "constructor" => Some(constructor_told(alloc, text, &project, "A")?),
+        "constructor of this" => Some(constructor_told(alloc, text, &project, "this")?),
         "member" => Some(member_told(alloc, text, &project, Want::Any)?),
         "field" => Some(member_told(alloc, text, &project, Want::Field)?),
         "method" => Some(member_told(alloc, text, &project, Want::Method)?),
@@ -203,14 +204,16 @@ fn class_told(alloc: Global, text: &str, project: &Project) -> Result<Answer, Al
     }
 }
 
-/// The number of the parameters of a constructor of the class `A`.
-fn constructor_told(alloc: Global, text: &str, project: &Project) -> Result<Answer, AllocError> {
-    let Ok(class) = parse_name(alloc, "A") else {
+/// The number of the parameters of a constructor of the class of this name.
+fn constructor_told(
+    alloc: Global,
+    text: &str,
+    project: &Project,
+    class: &str,
+) -> Result<Answer, AllocError> {
+    let Some(class) = Name::of(alloc, class)? else {
         return Answer::refusal(alloc, "no name");
     };
-    if class.text() == "this" {
-        return Answer::refusal(alloc, "no class");
-    }
     match parse_constructor(alloc, text, project.model(), &class) {
         Ok(ctor) => {
             let count = ctor.params.slice().len();

@@ -156,7 +156,7 @@ class_laws format features =
       settles = λ ts s k rs ran. run_settles ts s (class_ended format features k) rs refl (narrow_run format features ts s (class_ended format features k) rs ran);
       settled = λ ts s rs ran. waiting_settled s.mode s rs (reached format features ts s rs ran).holds;
       named = class_named format features;
-      unnamed = λ s w free. class_unnamed s.mode s w free;
+      unnamed = λ s w is free. class_unnamed s.mode s w free;
     }
 
 -- ---- for what reads classes

@@ -17,7 +17,7 @@ use Rattle.fj_parser.specs.declared.goal.Goal.TheVariants as goal
 use Rattle.fj_machine.specs.declared.mode.Mode.{Mode}
 use Rattle.fj_machine.specs.declared.mode.Mode.TheVariants.{InMembers, AfterType, InMethods, InExpression, AtEnd}
 use Rattle.fj_parser.specs.Goals.{step_for, takes_name_for, reader_for}
-use Rattle.fj_machine.specs.Machine.{State, pending, pending_in, emitted, reader, run}
+use Rattle.fj_machine.specs.Machine.{State, pending, pending_in, emitted, reader, run, step_in}
 use Rattle.fj_machine.specs.Readers.{Run, with_roles, then_run, run_of}
 use Rattle.fj_parser.proofs.Closing.{Reaches}
 use Rattle.fj_parser.proofs.Complete.{same_name}
@@ -260,17 +260,17 @@ module _ (format : Format) (features : List (List ℕ)) (class : List ℕ) where
   -- ---- names
 
   -- where some identifier could stand, one can
-  named : is_identifier class ≡ true → (ts : List Token) (s : State) (rs : List Role) → Ran ts s rs → are_read ts ≡ true → takes_name_for goal.Constructor s.mode s ≡ true → GoesByName (ctor_reader format features class) s
-  named fine ts s rs ran read takes = by (stage_of ts s rs ran)
+  named : (ts : List Token) (s : State) (rs : List Role) → Ran ts s rs → are_read ts ≡ true → takes_name_for goal.Constructor s.mode s ≡ true → GoesByName (ctor_reader format features class) s
+  named ts s rs ran read takes = by (stage_of ts s rs ran)
     where
-      -- before the constructor the class's name can
-      class_goes : s.mode ≡ InMembers → s.name ≡ class → GoesByName (ctor_reader format features class) s
-      class_goes here name =
+      -- before the constructor the class's name can, where it is an identifier
+      class_goes : s.mode ≡ InMembers → GoesByName (ctor_reader format features class) s
+      class_goes here =
           let n : State = record s { mode = AfterType; of = s.name } in
           record {
             name = s.name;
             next = n;
-            is = ap is_identifier name ∙ fine;
+            is = sym (ap (λ m. takes_name_for goal.Constructor m s) here) ∙ takes;
             goes = ap (λ m. step_for goal.Constructor m s (Id s.name)) here ∙ ap (λ b. if b then Some n else None) (same_name s.name);
           }
 
@@ -283,7 +283,7 @@ module _ (format : Format) (features : List (List ℕ)) (class : List ℕ) where
           record { name = n.name; next = n.next; is = n.is; goes = ap (λ x. step_for goal.Constructor x s (Id n.name)) here ∙ n.goes }
 
       at : CtorStage class s → GoesByName (ctor_reader format features class) s
-      at (before_it here name) = class_goes here name
+      at (before_it here name) = class_goes here
       at (behind_name here same) = no_case (sym (ap (λ m. takes_name_for goal.Constructor m s) here) ∙ takes)
       at (in_it within) =
           let ours : run ts (before_ctor format features class) ≡ (Some s, rs) = narrow_run format features class ts (before_ctor format features class) s rs (stage_open class s (in_it within)) ran in
@@ -294,18 +294,26 @@ module _ (format : Format) (features : List (List ℕ)) (class : List ℕ) where
       by (inside k) = at k
       by (ended_by front m qs split first roles here is) = no_case (sym (ap (λ (x : State). takes_name_for goal.Constructor x.mode x) is) ∙ takes)
 
+-- an identifier isn't a name that is none
+another : (w name : List ℕ) → is_identifier w ≡ true → is_identifier name ≡ false → bytes_eq w name ≡ false
+another w name is none = by (bytes_eq w name) refl
+  where
+    by : (b : Bool) → bytes_eq w name ≡ b → b ≡ false
+    by true same = no_case (sym none ∙ ap is_identifier (sym ((bytes_eq-Decides w name).0 same)) ∙ is)
+    by false other = refl
+
 -- and elsewhere none can
-ctor_unnamed : (m : Mode) (s : State) (w : List ℕ) → takes_name_for goal.Constructor m s ≡ false → step_for goal.Constructor m s (Id w) ≡ None
-ctor_unnamed InMembers s w e = no_case (sym e)
-ctor_unnamed AfterType s w e = refl
-ctor_unnamed InMethods s w e = refl
-ctor_unnamed m s w e = name_stops m s w e
+ctor_unnamed : (m : Mode) (s : State) (w : List ℕ) → is_identifier w ≡ true → takes_name_for goal.Constructor m s ≡ false → step_for goal.Constructor m s (Id w) ≡ None
+ctor_unnamed InMembers s w is e = ap (λ b. if b then step_in InMembers s (Id w) else None) (another w s.name is e)
+ctor_unnamed AfterType s w is e = refl
+ctor_unnamed InMethods s w is e = refl
+ctor_unnamed m s w is e = name_stops m s w e
 
 -- ---- all laws together
 
 -- the machine for a single constructor reads the texts of constructors
-pub constructor_laws : (format : Format) (features : List (List ℕ)) (class : List ℕ) → is_identifier class ≡ true → Reads (constructors format features class) (reader_for goal.Constructor format features class)
-constructor_laws format features class fine =
+pub constructor_laws : (format : Format) (features : List (List ℕ)) (class : List ℕ) → Reads (constructors format features class) (reader_for goal.Constructor format features class)
+constructor_laws format features class =
     record {
       grammar = ctor_grammar_is_plain format features class;
       ended = ctor_ended format features class;
@@ -319,11 +327,11 @@ constructor_laws format features class fine =
       each = each format features class;
       settles = λ ts s c rs ran. ctor_settles format features class ts s (ctor_ended format features class c) rs refl ran;
       settled = settled format features class;
-      named = named format features class fine;
-      unnamed = λ s w free. ctor_unnamed s.mode s w free;
+      named = named format features class;
+      unnamed = λ s w is free. ctor_unnamed s.mode s w is free;
     }
 
 -- the constructor that is read
-pub constructor_stands : (format : Format) (features : List (List ℕ)) (class : List ℕ) (fine : is_identifier class ≡ true) (n : State) → (constructor_laws format features class fine).stands_for n ≡ n.ctor
+pub constructor_stands : (format : Format) (features : List (List ℕ)) (class : List ℕ) (n : State) → (constructor_laws format features class).stands_for n ≡ n.ctor
 unfolding constructor_laws
-constructor_stands format features class fine n = refl
+constructor_stands format features class n = refl

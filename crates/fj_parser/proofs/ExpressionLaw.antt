@@ -350,7 +350,7 @@ expression_laws =
       settles = settles;
       settled = λ ts s rs ran. settled ts s rs (reached ts s rs ran);
       named = λ ts s rs ran read. goes_by_name ts s rs (reached ts s rs ran);
-      unnamed = λ s w. stops s.mode s w;
+      unnamed = λ s w is. stops s.mode s w;
     }
 
 -- Behind the end of the text one method is in hand, and its body is the expression that was read.

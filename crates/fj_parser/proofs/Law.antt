@@ -198,7 +198,7 @@ laws =
       settles = settles;
       settled = λ ts s rs ran. waiting_settled s.mode s rs (reached ts s rs ran).holds;
       named = goes_by_name;
-      unnamed = λ s w free. name_stops s.mode s w free;
+      unnamed = λ s w is free. name_stops s.mode s w free;
     }
 
 pub stands : (s : State) → laws.stands_for s ≡ stands_for s

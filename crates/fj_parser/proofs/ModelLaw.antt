@@ -336,7 +336,7 @@ model_laws =
       settles = λ ts s x rs ran. settles ts s (without_classes x) rs (project_run ts s (ended (without_classes x)) rs ran);
       settled = λ ts s rs ran. laws.settled ts s rs (project_run ts start s rs ran);
       named = λ ts s rs ran read takes. goes_by_name s (laws.named ts s rs (project_run ts start s rs ran) read takes);
-      unnamed = λ s w free. classless_step s.mode s (Id w) refl ∙ laws.unnamed s w free;
+      unnamed = λ s w is free. classless_step s.mode s (Id w) refl ∙ laws.unnamed s w is free;
     }
 
 -- the model that was read

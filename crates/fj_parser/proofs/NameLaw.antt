@@ -109,7 +109,7 @@ name_laws =
       settles = λ ts s w rs ran. goal_settles goal.Name One [] unnamed (λ s t. refl) ts s (name_ended w) rs ran refl;
       settled = λ ts s rs ran. settled ts s rs (reached ts s rs ran);
       named = λ ts s rs ran read. goes_by_name ts s rs (reached ts s rs ran);
-      unnamed = λ s w. stops s.mode s w;
+      unnamed = λ s w is. stops s.mode s w;
     }
 
 -- the name that was read

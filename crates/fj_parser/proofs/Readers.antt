@@ -193,7 +193,7 @@ module _ {V : Type 0} (l : Language V) (m : Reader) (laws : Reads l m) where
     where
       go : (a b : Bool) → is_reserved_word t ≡ a → m.takes_name s ≡ b → IsMisplaced l front t (if a && b then fault.Reserved else fault.Unexpected)
       go false b word name = other word
-      go true false word name = no_name (λ w is can. cannot_go_on front (Id w) s rs h (laws.unnamed s w name) can)
+      go true false word name = no_name (λ w is can. cannot_go_on front (Id w) s rs h (laws.unnamed s w is name) can)
       go true true word name =
           let n : GoesByName m s = laws.named front s rs h read name in
           reserved word n.name n.is (can_go_on front (Id n.name) s n.next rs h n.goes)

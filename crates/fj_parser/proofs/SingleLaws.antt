@@ -316,7 +316,7 @@ module _ (g : Goal) (format : Format) (fs : List (List ℕ)) (class : List ℕ) 
             settles = λ ts s x rs h. part_settles g format fs class part.in_expression ts s (at_end part x) rs refl h;
             settled = settled;
             named = named;
-            unnamed = part.unnamed;
+            unnamed = λ s w is. part.unnamed s w;
           }
 
       pub part_stands : (none : pending first_state ≡ []) (s : State) → (part_laws none).stands_for s ≡ part.stands_for s

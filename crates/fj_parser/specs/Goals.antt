@@ -6,6 +6,7 @@ use Rattle.cfj_model.specs.declared.class.Class.{Class}
 use Rattle.cfj_model.specs.declared.class.Field.{Field}
 use Rattle.cfj_model.specs.declared.class.Method.{Method}
 use Rattle.cfj_model.specs.declared.feature_model.Format.{Format}
+use Rattle.cfj_words.specs.Names.{is_identifier}
 use Rattle.cfj_words.specs.Tokens.{Token, Id, ClassWord, OpenParen, Semicolon, At, End}
 use Rattle.fj_machine.specs.Readers.{Reader}
 use Rattle.fj_machine.specs.Machine.{State, behind, start, step_in, emitted, pending, takes_name_in, to, with_single_field}
@@ -85,6 +86,7 @@ none_yet (x ∷ xs) = false
 
 -- some identifier could stand next
 abbrev pub takes_name_for : Goal → Mode → State → Bool
+takes_name_for goal.Constructor InMembers s = is_identifier s.name
 takes_name_for goal.Constructor AfterType s = false
 takes_name_for goal.Constructor InMethods s = false
 takes_name_for goal.Field InMembers s = none_yet s.fields

@@ -49,4 +49,4 @@ pub record Reads {V : Type 0} (l : Language V) (m : Reader) : Type 0 where
   pub settles : (ts : List Token) (s : m.State) (x : l.Tree) (rs : List Role) → run_of m ts s ≡ (Some (ended x), rs) → Settles (m.pending s) rs
   pub settled : (ts : List Token) (s : m.State) (rs : List Role) → run_of m ts m.start ≡ (Some s, rs) → are_settled (rs ++ m.pending s) ≡ true
   pub named : (ts : List Token) (s : m.State) (rs : List Role) → run_of m ts m.start ≡ (Some s, rs) → are_read ts ≡ true → m.takes_name s ≡ true → GoesByName m s
-  pub unnamed : (s : m.State) (w : List ℕ) → m.takes_name s ≡ false → m.step s (Id w) ≡ None
+  pub unnamed : (s : m.State) (w : List ℕ) → is_identifier w ≡ true → m.takes_name s ≡ false → m.step s (Id w) ≡ None

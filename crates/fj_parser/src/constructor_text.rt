@@ -5,7 +5,6 @@ ghost use Rattle.cfj_model.specs.Coloring.{palette_of};
 ghost use Rattle.cfj_model.specs.declared.class.Constructor.{Constructor};
 ghost use Rattle.cfj_model.specs.Faults.{IsFirstFault};
 ghost use Rattle.cfj_model.specs.Languages.{IsTextOf};
-ghost use Rattle.cfj_words.specs.Names.{is_identifier};
 ghost use Rattle.cfj_model.specs.Numbered.{is_numbered_ctor};
 ghost use Rattle.cfj_model.specs.ProductLines.{are_distinct, is_ctor, most_features};
 ghost use Rattle.fj_parser.specs.Answers.{IsReadAs, IsRefusedAs};
@@ -25,7 +24,6 @@ fn read_constructor<'a>(
 ) -> Result<Constructor, ParseFault>
     requires few { nat_le (length model.now.features) most_features ≡ true }
     requires distinct { are_distinct model.now.features ≡ true }
-    requires identifier { is_identifier class.now ≡ true }
     ensures read { IfOk result (λ ctor. IsTextOf (constructors model.entry.now.format model.entry.now.features class.entry.now) text.entry.now ctor) }
     ensures fault { (at : ℕ) (kind : _) → result ≡ Err (ParseFault.At at kind) → IsFirstFault (constructors model.entry.now.format model.entry.now.features class.entry.now) text.entry.now at kind }
 {
@@ -42,7 +40,6 @@ pub fn parse_constructor(
 ) -> Result<Constructor, ParseFault>
     requires few { nat_le (length model.now.features) most_features ≡ true }
     requires distinct { are_distinct model.now.features ≡ true }
-    requires identifier { is_identifier class.now ≡ true }
     // What is read is the value of a text of the grammar, and every text of the grammar is read.
     ensures read { IfOk result (λ ctor. IsTextOf (constructors model.now.format model.now.features class.now) text.now ctor) }
     ensures only { (ctor : Constructor) → IsTextOf (constructors model.now.format model.now.features class.now) text.now ctor → IsReadAs ctor result }

@@ -8,6 +8,7 @@ ghost use Rattle.fj_machine.specs.MachineViews.{machine_seen, names_fit_in, IsRo
 ghost use Rattle.fj_symbols.specs.Views.{is_read, symbol_seen};
 
 use crate::passage::{self, Passage};
+use cfj_model::is_identifier;
 use fj_machine::{Machine, Mode};
 use fj_symbols::Symbol;
 use std::alloc::{AllocError, Global};
@@ -115,6 +116,8 @@ impl Goal {
         ensures { result ≡ takes_name_for self machine.now.mode (machine_seen machine.now) }
     {
         match (self, machine.mode) {
+            // The class's name alone can, which may be a reserved word.
+            (Goal::Constructor, Mode::InMembers) => is_identifier(machine.name),
             (Goal::Constructor, Mode::AfterType | Mode::InMethods) => false,
             (Goal::Field, Mode::InMembers) => machine.fields.is_empty(),
             (Goal::Method, Mode::InMethods) => machine.methods.is_empty(),

@@ -17,14 +17,14 @@ returns-clause-only c =
     let format = c.args.model.now.format in
     let features = c.args.model.now.features in
     let class = c.args.class.now in
-    only_read (constructors format features class) (reader_for reads.Constructor format features class) (constructor_laws format features class c.requires.identifier) c.args.text.now c.read_constructor.result c.read_constructor.ensures.read c.read_constructor.ensures.fault
+    only_read (constructors format features class) (reader_for reads.Constructor format features class) (constructor_laws format features class) c.args.text.now c.read_constructor.result c.read_constructor.ensures.read c.read_constructor.ensures.fault
 
 pub returns-clause-first : goal.returns-clause-first
 returns-clause-first c =
     let format = c.args.model.now.format in
     let features = c.args.model.now.features in
     let class = c.args.class.now in
-    only_told (constructors format features class) (reader_for reads.Constructor format features class) (constructor_laws format features class c.requires.identifier) c.args.text.now c.read_constructor.result c.read_constructor.ensures.read c.read_constructor.ensures.fault
+    only_told (constructors format features class) (reader_for reads.Constructor format features class) (constructor_laws format features class) c.args.text.now c.read_constructor.result c.read_constructor.ensures.read c.read_constructor.ensures.fault
 
 pub returns-clause-kept : goal.returns-clause-kept
 returns-clause-kept c =

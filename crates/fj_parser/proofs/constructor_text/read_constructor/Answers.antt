@@ -14,7 +14,7 @@ read_text-requires c =
     let format = c.args.model.now.format in
     let features = c.args.model.now.features in
     let class = c.args.class.now in
-    part_settles c.constructor.result reads.Constructor format features class c.constructor.ensures (constructors format features class) (constructor_laws format features class c.requires.identifier)
+    part_settles c.constructor.result reads.Constructor format features class c.constructor.ensures (constructors format features class) (constructor_laws format features class)
 
 pub returns-in_err-machine-clause-fault : goal.returns-in_err-machine-clause-fault
 returns-in_err-machine-clause-fault c = λ at kind e.
@@ -23,7 +23,7 @@ returns-in_err-machine-clause-fault c = λ at kind e.
     let class = c.args.class.now in
     let p = err_from_is_err_and c.from_residual.result c.from_residual.ensures.1 in
     let told : c.read_text.result ≡ Err (At at kind) = cc (p.1, p.2, e, c.in_err-machine.was) in
-    part_fault c.constructor.result reads.Constructor format features class c.constructor.ensures (constructors format features class) (constructor_laws format features class c.requires.identifier) refl c.args.text.now at kind c.utf8.text (c.read_text.ensures.fault at kind told)
+    part_fault c.constructor.result reads.Constructor format features class c.constructor.ensures (constructors format features class) (constructor_laws format features class) refl c.args.text.now at kind c.utf8.text (c.read_text.ensures.fault at kind told)
 
 pub returns-clause-read : goal.returns-clause-read
 returns-clause-read c =
@@ -31,5 +31,5 @@ returns-clause-read c =
     let features = c.args.model.now.features in
     let class = c.args.class.now in
     let n = machine_seen c.in_ok-machine.machine.value in
-    subst (IsTextOf (constructors format features class) c.args.text.now) (constructor_stands format features class c.requires.identifier n ∙ sym c.into_ctor.ensures)
-    (part_text c.constructor.result reads.Constructor format features class c.constructor.ensures (constructors format features class) (constructor_laws format features class c.requires.identifier) refl c.args.text.now n c.utf8.text c.in_ok-machine.ensures.read)
+    subst (IsTextOf (constructors format features class) c.args.text.now) (constructor_stands format features class n ∙ sym c.into_ctor.ensures)
+    (part_text c.constructor.result reads.Constructor format features class c.constructor.ensures (constructors format features class) (constructor_laws format features class) refl c.args.text.now n c.utf8.text c.in_ok-machine.ensures.read)

@@ -13,12 +13,13 @@ use Rattle.cfj_model.specs.declared.class.Field.{Field}
 use Rattle.cfj_model.specs.declared.class.Method.{Method}
 use Rattle.cfj_model.specs.declared.class.Param.{Param}
 use Rattle.cfj_model.specs.declared.site.Rule.{Rule}
-use Rattle.cfj_model.specs.declared.site.Rule.TheVariants.{K1, K2}
+use Rattle.cfj_model.specs.declared.site.Rule.TheVariants.{K1, K2, K3, K4, K5, K6, K7, K8, K9}
 use Rattle.cfj_model.specs.declared.site.Site.{Site}
 use Rattle.cfj_model.specs.declared.site.Site.TheVariants as site
 use Rattle.cfj_words.specs.Lists.{Has}
 use Rattle.locality_law.specs.Apart.{AreApart}
 use Rattle.locality_law.proofs.ApartLists.{alts_apart, apart_by, apart_flat, apart_tested, names_apart, rising_apart}
+use Rattle.locality_law.proofs.ClassUnits.{each_placed}
 use Rattle.locality_law.proofs.Items.{Each, each_both, each_of}
 use Rattle.locality_law.proofs.NodeSites.{AreRanked, no_more, stands}
 use Rattle.locality_law.proofs.Told.{IsKept, IsMethodKept, kept_class}
@@ -97,6 +98,10 @@ one_apart s vs h = apart_by (λ (p : Pair). rank p.1) (map pair_of (judged_at s 
     ranks_are [] = refl
     ranks_are (w ∷ ws) = ap (λ z. rank w.0 ∷ z) (ranks_are ws)
 
+-- the pairs of these rules don't depend on what breaks
+abbrev quiet : List Rule → List Ruling
+quiet rules = map (λ r. (r, false)) rules
+
 -- parts of different kinds, up to one and above it
 kinds_apart : (n : ℕ) (js ks : List RuleAt) → AreApartAt js → AreApartAt ks → AtSites (λ s. nat_le (kind_of s) n ≡ true) js → AtSites (λ s. nat_le (kind_of s) n ≡ false) ks → AreApartAt (js ++ ks)
 kinds_apart n js ks a b front back =
@@ -120,10 +125,6 @@ each_item P xs h = each_of P xs (λ x here. h x)
 placed_keys : {A L : Type 0} (key : A → L) (before xs : List A) → map (λ (q : Placed A). key q.item) (placed_behind before xs) ≡ map key xs
 placed_keys key before [] = refl
 placed_keys key before (x ∷ xs) = ap (λ w. key x ∷ w) (placed_keys key (before ++ x ∷ []) xs)
-
-each_placed_item : {A : Type 0} (P : A → Type 0) (before xs : List A) → Each P xs → Each (λ (q : Placed A). P q.item) (placed_behind before xs)
-each_placed_item P before [] e = tt
-each_placed_item P before (x ∷ xs) e = (e.0, each_placed_item P (before ++ x ∷ []) xs e.1)
 
 -- ---- the sites of a class
 
@@ -191,24 +192,24 @@ module _ (p : Table) (k : Class) (kept : IsKept k) where
   fields_apart : AreApartAt (flat_map (judged_field p k) (placed k.fields))
   fields_apart =
       items_apart (λ (f : Placed Field). (f.item.name, f.item.alt)) member_of (judged_field p k) (placed k.fields) field_label
-      (each_item (λ (f : Placed Field). AreApartAt (judged_field p k f)) (placed k.fields) (λ f. one_apart (site.Field k.name f.item.name f.item.alt) _ refl))
+      (each_item (λ (f : Placed Field). AreApartAt (judged_field p k f)) (placed k.fields) (λ f. one_apart (site.Field k.name f.item.name f.item.alt) (quiet (K1 ∷ (K3 ∷ (K9 ∷ [])))) refl))
       (subst AreApart (sym (placed_keys (λ (f : Field). (f.name, f.alt)) [] k.fields)) (alts_apart (map (λ (f : Field). (f.name, f.alt)) k.fields) kept.fields_rise))
 
   taken_apart : AreApartAt (flat_map (taken_rules p k) k.ctor.params)
   taken_apart =
       items_apart (λ (c : Param). c.slot) slot_of (taken_rules p k) k.ctor.params (λ c. (refl, tt))
-      (each_item (λ (c : Param). AreApartAt ((taken_rules p k) c)) k.ctor.params (λ c. one_apart (site.CtorParam k.name c.slot) _ refl)) (rising_apart 0 (map (λ (c : Param). c.slot) k.ctor.params) kept.takes)
+      (each_item (λ (c : Param). AreApartAt ((taken_rules p k) c)) k.ctor.params (λ c. one_apart (site.CtorParam k.name c.slot) (quiet (K1 ∷ [])) refl)) (rising_apart 0 (map (λ (c : Param). c.slot) k.ctor.params) kept.takes)
 
   ctor_apart : AreApartAt (judged_ctor p k)
   ctor_apart =
-      kinds_apart 3 (judged_at (site.Ctor k.name) _) (flat_map (taken_rules p k) k.ctor.params) (one_apart (site.Ctor k.name) _ refl) taken_apart
-      (at_one (λ s. nat_le (kind_of s) 3 ≡ true) (site.Ctor k.name) refl _) (at_all (Later 3) (taken_rules p k) k.ctor.params (λ c. (refl, tt)))
+      kinds_apart 3 (judged_at (site.Ctor k.name) (quiet (K4 ∷ (K5 ∷ (K6 ∷ []))))) (flat_map (taken_rules p k) k.ctor.params) (one_apart (site.Ctor k.name) (quiet (K4 ∷ (K5 ∷ (K6 ∷ [])))) refl) taken_apart
+      (at_one (λ s. nat_le (kind_of s) 3 ≡ true) (site.Ctor k.name) refl (quiet (K4 ∷ (K5 ∷ (K6 ∷ []))))) (at_all (Later 3) (taken_rules p k) k.ctor.params (λ c. (refl, tt)))
 
   module _ (m : Method) (inside : IsMethodKept m) where
     params_apart : AreApartAt (flat_map (param_rules p k m) m.params)
     params_apart =
         items_apart (λ (a : Param). a.slot) slot_of (param_rules p k m) m.params (λ a. (refl, tt))
-        (each_item (λ (a : Param). AreApartAt (param_rules p k m a)) m.params (λ a. one_apart (site.Param k.name m.name m.alt a.slot) _ refl)) (rising_apart 0 (map (λ (a : Param). a.slot) m.params) inside.params)
+        (each_item (λ (a : Param). AreApartAt (param_rules p k m a)) m.params (λ a. one_apart (site.Param k.name m.name m.alt a.slot) (quiet (K1 ∷ [])) refl)) (rising_apart 0 (map (λ (a : Param). a.slot) m.params) inside.params)
 
     nodes_apart : AreApartAt (flat_map (node_rules p k m) (nodes p k m))
     nodes_apart =
@@ -236,14 +237,14 @@ module _ (p : Table) (k : Class) (kept : IsKept k) where
   method_apart : (q : Placed Method) → IsMethodKept q.item → AreApartAt (judged_method p k q)
   method_apart q inside =
       let m : Method = q.item in
-      kinds_apart 7 (judged_at (site.Method k.name m.name m.alt) _) (flat_map (param_rules p k m) m.params ++ flat_map (node_rules p k m) (nodes p k m)) (one_apart (site.Method k.name m.name m.alt) _ refl) (parts_apart m inside)
-      (at_one (λ s. nat_le (kind_of s) 7 ≡ true) (site.Method k.name m.name m.alt) refl _) (parts_later m inside)
+      kinds_apart 7 (judged_at (site.Method k.name m.name m.alt) (quiet (K1 ∷ (K7 ∷ (K8 ∷ (K9 ∷ [])))))) (flat_map (param_rules p k m) m.params ++ flat_map (node_rules p k m) (nodes p k m)) (one_apart (site.Method k.name m.name m.alt) (quiet (K1 ∷ (K7 ∷ (K8 ∷ (K9 ∷ []))))) refl) (parts_apart m inside)
+      (at_one (λ s. nat_le (kind_of s) 7 ≡ true) (site.Method k.name m.name m.alt) refl (quiet (K1 ∷ (K7 ∷ (K8 ∷ (K9 ∷ [])))))) (parts_later m inside)
 
   methods_apart : AreApartAt (flat_map (judged_method p k) (placed k.methods))
   methods_apart =
       items_apart (λ (q : Placed Method). (q.item.name, q.item.alt)) member_of (judged_method p k) (placed k.methods)
       (λ q. of_method p k (λ s. member_of s ≡ (q.item.name, q.item.alt)) q refl (λ i. refl) (λ i. refl))
-      (over (placed k.methods) (each_placed_item IsMethodKept [] k.methods (each_of IsMethodKept k.methods kept.methods)))
+      (over (placed k.methods) (each_placed IsMethodKept [] k.methods (each_of IsMethodKept k.methods kept.methods)))
       (subst AreApart (sym (placed_keys (λ (m : Method). (m.name, m.alt)) [] k.methods)) (alts_apart (map (λ (m : Method). (m.name, m.alt)) k.methods) kept.rise))
     where
       over : (qs : List (Placed Method)) → Each (λ (q : Placed Method). IsMethodKept q.item) qs → Each (λ (q : Placed Method). AreApartAt (judged_method p k q)) qs
@@ -262,8 +263,8 @@ module _ (p : Table) (k : Class) (kept : IsKept k) where
 
   class_apart : AreApartAt (judged_class p k)
   class_apart =
-      kinds_apart 1 (judged_at (site.Class k.name) ((K1, not (is_known p k.parent)) ∷ (K2, extends_itself p k) ∷ [])) (flat_map (judged_field p k) (placed k.fields) ++ (behind_fields p k))
-      (one_apart (site.Class k.name) _ refl) members_apart (refl, (refl, tt))
+      kinds_apart 1 (judged_at (site.Class k.name) (quiet (K1 ∷ (K2 ∷ [])))) (flat_map (judged_field p k) (placed k.fields) ++ (behind_fields p k))
+      (one_apart (site.Class k.name) (quiet (K1 ∷ (K2 ∷ []))) refl) members_apart (refl, (refl, tt))
       (each_both (λ (j : RuleAt). Later 1 j.site) (flat_map (judged_field p k) (placed k.fields)) (behind_fields p k) (of_fields p k (Later 1) (λ f alt. refl))
       (of_behind p k (Later 1) refl (λ i. refl) (λ m alt. refl) (λ m alt i. refl) (λ m alt i. refl)))
 

@@ -47,6 +47,9 @@ names_of_args args = joined (map names_of_arg args)
 abbrev pub calls_of_args : List Arg → List (List ℕ)
 calls_of_args args = joined (map calls_of_arg args)
 
+pub names_var : (slot : ℕ) (x : List ℕ) → classes_named_by (e.Var slot x) ≡ []
+names_var slot x = fold_var (List (List ℕ)) (List (List ℕ)) classes_named_step (λ a. a.expr) slot x
+
 pub names_get : (slot : ℕ) (on : Expr) (f : List ℕ) → classes_named_by (e.Get slot on f) ≡ classes_named_by on
 names_get slot on f = fold_get (List (List ℕ)) (List (List ℕ)) classes_named_step (λ a. a.expr) slot on f
 
@@ -58,6 +61,9 @@ names_new slot c args = fold_new (List (List ℕ)) (List (List ℕ)) classes_nam
 
 pub names_cast : (slot : ℕ) (c : List ℕ) (on : Expr) → classes_named_by (e.Cast slot c on) ≡ c ∷ classes_named_by on
 names_cast slot c on = fold_cast (List (List ℕ)) (List (List ℕ)) classes_named_step (λ a. a.expr) slot c on
+
+pub calls_var : (slot : ℕ) (x : List ℕ) → methods_called_by (e.Var slot x) ≡ []
+calls_var slot x = fold_var (List (List ℕ)) (List (List ℕ)) methods_called_step (λ a. a.expr) slot x
 
 pub calls_get : (slot : ℕ) (on : Expr) (f : List ℕ) → methods_called_by (e.Get slot on f) ≡ methods_called_by on
 calls_get slot on f = fold_get (List (List ℕ)) (List (List ℕ)) methods_called_step (λ a. a.expr) slot on f

@@ -25,7 +25,7 @@ use Rattle.locality_law.proofs.SeenChains.{HeadSeen, any_parent_same, fields_sam
 use Rattle.locality_law.proofs.SeenVariants.{AreNamedApart, declared_variant, shown, variant_of}
 
 -- items with those before them are items
-each_placed : {A : Type 0} (P : A → Type 0) (before xs : List A) → Each P xs → Each (λ (q : Placed A). P q.item) (placed_behind before xs)
+pub each_placed : {A : Type 0} (P : A → Type 0) (before xs : List A) → Each P xs → Each (λ (q : Placed A). P q.item) (placed_behind before xs)
 each_placed P before [] e = tt
 each_placed P before (x ∷ xs) e = (e.0, each_placed P (before ++ x ∷ []) xs e.1)
 

@@ -1,4 +1,6 @@
 pub mod Agreement
+pub mod ApartLists
+pub mod ApartPairs
 pub mod Bodies
 pub mod BodyNames
 pub mod ByUnit
@@ -6,8 +8,11 @@ pub mod ClassLaw
 pub mod ClassUnits
 pub mod Exact
 pub mod Items
+pub mod Keys
 pub mod MethodLaw
 pub mod Methods
+pub mod NodeSites
+pub mod SampleReach
 pub mod SeenChains
 pub mod SeenVariants
 pub mod Together

@@ -1,15 +1,16 @@
 -- The nodes of a judged body stand at its slots, and the rules of each in their order.
-use Rattle.std.proofs.Common.{◌≡◌, ◌⊎◌, inl, inr, ℕ, Bool, true, false, List, [], ◌∷◌, ◌++◌, map, refl, sym, ◌∙◌, ap, ap₂, subst}
+use Rattle.std.proofs.Common.{◌≡◌, ◌⊎◌, inl, inr, ℕ, Bool, true, false, not, ◌&&◌, List, [], ◌∷◌, ◌++◌, map, Option, is_some, option_map, refl, sym, ◌∙◌, ap, ap₂, subst}
 use Rattle.std.specs.List.{flat_map}
 use Rattle.std.specs.Prelude.{⊤}
 use Rattle.std.proofs.lemmas.List.{map-append}
 use Rattle.cfj_model.proofs.ExprCases.{Proved, args_of, by_cases, fold_var, fold_get, fold_call, fold_new, fold_cast, of_arg}
 use Rattle.cfj_model.specs.Expressions as expressions
 use Rattle.cfj_model.specs.Expressions.{slots, slots_step}
-use Rattle.cfj_model.specs.Judging.{JudgedExpr, Ruling, argument_rules, judged_arg, judged_expr, judged_step, rank, with_ruling}
-use Rattle.cfj_model.specs.LookUps.{Table}
+use Rattle.cfj_model.specs.Judging.{Fit, JudgedExpr, Ruling, accessed, argument_rules, called, field_types, fit_of, is_unrelated, judged_arg, judged_expr, judged_step, rank, types_of, variable_type, with_ruling}
+use Rattle.cfj_model.specs.LookUps.{Table, is_known}
 use Rattle.cfj_model.specs.ProductLines.{rise_from}
-use Rattle.cfj_model.specs.Typing.{Environment}
+use Rattle.cfj_model.specs.Typing.{Environment, param_types}
+use Rattle.cfj_model.specs.declared.class.Method.{Method}
 use Rattle.cfj_model.specs.declared.expr.Arg.{Arg}
 use Rattle.cfj_model.specs.declared.expr.Expr.{Expr}
 use Rattle.cfj_model.specs.declared.expr.Expr.TheVariants as e
@@ -96,25 +97,45 @@ module _ (p : Table) (g : Environment) where
   pub stands : (x : Expr) (more : List Ruling) → IsMore more → StandsAt x more
   stands = by_cases Stands (record {
     var_case = λ slot name more is.
-        as_at _ _ _ (slot ∷ []) (ap (λ (j : JudgedExpr). j.rules more) (fold_var JudgedExpr JudgedExpr (judged_step p g) judged_arg slot name)) (fold_var (List ℕ) (List ℕ) slots_step expressions.of_arg slot name)
-        (one_at slot _ [] [] (var_ranked more is _) (refl, tt));
+        let absent : Bool = not (is_some (variable_type g name)) in
+        as_at _ ((slot, (E1, absent) ∷ more) ∷ []) _ (slot ∷ []) (ap (λ (j : JudgedExpr). j.rules more) (fold_var JudgedExpr JudgedExpr (judged_step p g) judged_arg slot name))
+        (fold_var (List ℕ) (List ℕ) slots_step expressions.of_arg slot name)
+        (one_at slot ((E1, absent) ∷ more) [] [] (var_ranked more is absent) (refl, tt));
     get_case = λ slot on part field more is.
-        as_at _ _ _ (slots on ++ slot ∷ []) (ap (λ (j : JudgedExpr). j.rules more) (fold_get JudgedExpr JudgedExpr (judged_step p g) judged_arg slot on field))
+        let j : JudgedExpr = judged_expr p g on in
+        let absent : Bool = is_some j.type && not (is_some (accessed p j.type field)) in
+        as_at _ (j.rules [] ++ (slot, (E2, absent) ∷ more) ∷ []) _ (slots on ++ slot ∷ []) (ap (λ (j : JudgedExpr). j.rules more) (fold_get JudgedExpr JudgedExpr (judged_step p g) judged_arg slot on field))
         (fold_get (List ℕ) (List ℕ) slots_step expressions.of_arg slot on field)
-        (both_at _ _ (slots on) (slot ∷ []) (part [] no_more) (one_at slot _ [] [] (get_ranked more is _) (refl, tt)));
+        (both_at (j.rules []) ((slot, (E2, absent) ∷ more) ∷ []) (slots on) (slot ∷ []) (part [] no_more) (one_at slot ((E2, absent) ∷ more) [] [] (get_ranked more is absent) (refl, tt)));
     call_case = λ slot on part m ys more is.
-        as_at _ _ _ (slots on ++ slot ∷ flat_map (λ s. s) (map slots_of (args_of Stands ys)))
+        let j : JudgedExpr = judged_expr p g on in
+        let args : List JudgedExpr = map judged_of (args_of Stands ys) in
+        let ss : List ℕ = flat_map (λ s. s) (map slots_of (args_of Stands ys)) in
+        let ts : Option (List (List ℕ)) = types_of (map (λ a. a.type) args) in
+        let d : Option Method = called p j.type ts m in
+        let f : Fit = fit_of p args ts (option_map (λ (d : Method). param_types d.params) d) in
+        let absent : Bool = is_some j.type && is_some ts && not (is_some d) in
+        let behind : List (ℕ × List Ruling) = argument_rules E5 args f.misfits in
+        as_at _ (j.rules [] ++ (slot, (E3, absent) ∷ ((E4, f.differs) ∷ more)) ∷ behind) _ (slots on ++ slot ∷ ss)
         (ap (λ (j : JudgedExpr). j.rules more) (fold_call JudgedExpr JudgedExpr (judged_step p g) judged_arg slot on m (args_of Stands ys)))
         (fold_call (List ℕ) (List ℕ) slots_step expressions.of_arg slot on m (args_of Stands ys))
-        (both_at _ _ (slots on) (slot ∷ flat_map (λ s. s) (map slots_of (args_of Stands ys))) (part [] no_more)
-        (one_at slot _ _ (flat_map (λ s. s) (map slots_of (args_of Stands ys))) (call_ranked more is _ _) (args_at E5 of_call ys _)));
+        (both_at (j.rules []) ((slot, (E3, absent) ∷ ((E4, f.differs) ∷ more)) ∷ behind) (slots on) (slot ∷ ss) (part [] no_more)
+        (one_at slot ((E3, absent) ∷ ((E4, f.differs) ∷ more)) behind ss (call_ranked more is absent f.differs) (args_at E5 of_call ys f.misfits)));
     new_case = λ slot c ys more is.
-        as_at _ _ _ (slot ∷ flat_map (λ s. s) (map slots_of (args_of Stands ys)))
+        let args : List JudgedExpr = map judged_of (args_of Stands ys) in
+        let ss : List ℕ = flat_map (λ s. s) (map slots_of (args_of Stands ys)) in
+        let f : Fit = fit_of p args (types_of (map (λ a. a.type) args)) (field_types p c) in
+        let behind : List (ℕ × List Ruling) = argument_rules E7 args f.misfits in
+        let here : List Ruling = (K1, not (is_known p c)) ∷ with_ruling (E6, f.differs) more in
+        as_at _ ((slot, here) ∷ behind) _ (slot ∷ ss)
         (ap (λ (j : JudgedExpr). j.rules more) (fold_new JudgedExpr JudgedExpr (judged_step p g) judged_arg slot c (args_of Stands ys)))
         (fold_new (List ℕ) (List ℕ) slots_step expressions.of_arg slot c (args_of Stands ys))
-        (one_at slot _ _ (flat_map (λ s. s) (map slots_of (args_of Stands ys))) (new_ranked more is _ _) (args_at E7 of_new ys _));
+        (one_at slot here behind ss (new_ranked more is (not (is_known p c)) f.differs) (args_at E7 of_new ys f.misfits));
     cast_case = λ slot c on part more is.
-        as_at _ _ _ (slot ∷ slots on) (ap (λ (j : JudgedExpr). j.rules more) (fold_cast JudgedExpr JudgedExpr (judged_step p g) judged_arg slot c on))
+        let j : JudgedExpr = judged_expr p g on in
+        let unrelated : Bool = is_unrelated p j.type c in
+        let here : List Ruling = (K1, not (is_known p c)) ∷ with_ruling (E8, unrelated) more in
+        as_at _ ((slot, here) ∷ j.rules []) _ (slot ∷ slots on) (ap (λ (j : JudgedExpr). j.rules more) (fold_cast JudgedExpr JudgedExpr (judged_step p g) judged_arg slot c on))
         (fold_cast (List ℕ) (List ℕ) slots_step expressions.of_arg slot c on)
-        (one_at slot _ _ (slots on) (cast_ranked more is _ _) (part [] no_more));
+        (one_at slot here (j.rules []) (slots on) (cast_ranked more is (not (is_known p c)) unrelated) (part [] no_more));
   })

@@ -7,38 +7,9 @@ use Rattle.cfj_model.specs.declared.class.Class.{Class}
 use Rattle.cfj_model.specs.Typing.{param_types}
 use Rattle.cfj_model.specs.declared.class.Field.{Field}
 use Rattle.cfj_model.specs.declared.class.Method.{Method}
-use Rattle.class_table.proofs.Without.{others, taken}
+use Rattle.class_table.proofs.Without.{declared_before, others, taken, without_lt}
 use Rattle.class_table.proofs.Members.{names_tell, unlike}
 use Rattle.locality_law.proofs.Items.{Each}
-
--- ---- tables without a class
-
-found_before : (p : Table) (n m : List ℕ) (k : Class) → declared (without n p) m ≡ Some k → declared p m ≡ Some k
-found_before p n m k e = go (names_tell m n)
-  where
-    go : (m ≡ n) ⊎ (m ≡ n → ⊥) → declared p m ≡ Some k
-    go (inl s) = absurd (unlike (sym (taken p n) ∙ ap (declared (without n p)) (sym s) ∙ e))
-    go (inr ne) = sym (others p n m ne) ∙ e
-
-no_longer : (p : Table) (n : List ℕ) → length (without n p) ≤ length p
-no_longer [] n = omega arith
-no_longer (k ∷ ks) n = go (no_longer ks n) (bytes_eq k.name n)
-  where
-    go : length (without n ks) ≤ length ks → (b : Bool) → length (cond (not b) (k ∷ without n ks) (without n ks)) ≤ suc (length ks)
-    go ih true = omega arith
-    go ih false = omega arith
-
-shorter : (p : Table) (n : List ℕ) (c : Class) → declared p n ≡ Some c → length (without n p) < length p
-shorter [] n c e = absurd (unlike e)
-shorter (k ∷ ks) n c e = go (shorter ks n c) (bytes_eq k.name n) e
-  where
-    le : length (without n ks) ≤ length ks
-    le = no_longer ks n
-
-    go : (declared ks n ≡ Some c → length (without n ks) < length ks) → (b : Bool) → cond b (Some k) (declared ks n) ≡ Some c
-        → length (cond (not b) (k ∷ without n ks) (without n ks)) < suc (length ks)
-    go ih true e = omega (arith, le)
-    go ih false e = omega (arith, ih e)
 
 none_declared : (p : Table) (n : List ℕ) → length p ≤ 0 → declared p n ≡ None
 none_declared [] n le = refl
@@ -66,7 +37,7 @@ module _ {V : Type 0} (view : Class → V) (parent : V → List ℕ) (parent_is 
       go (inr ne) = ap (option_map view) (others p n m ne) ∙ alike m at ∙ sym (ap (option_map view) (others q n m ne))
 
   closed_without : (p : Table) (n : List ℕ) → IsClosed p → IsClosed (without n p)
-  closed_without p n closed m k at e = closed m k at (found_before p n m k e)
+  closed_without p n closed m k at e = closed m k at (declared_before p n m k e)
 
   no_view : (o : Option Class) (more : Class → List Class) → option_map view o ≡ None → map view (added more o) ≡ []
   no_view None more e = refl
@@ -91,8 +62,8 @@ module _ {V : Type 0} (view : Class → V) (parent : V → List ℕ) (parent_is 
       go ih (Some k) d None f e = absurd (unlike (sym e))
       go ih (Some k) d (Some l) f e =
           let s : view k ≡ view l = cc e in
-          let lt = shorter p n k d in
-          let rt = shorter q n l f in
+          let lt = without_lt p n k d in
+          let rt = without_lt q n l f in
           ap₂ (λ x xs. x ∷ xs) s
           (ih (omega (arith, lt)) (omega (arith, rt)) k.parent (closed n k at d)
           ∙ ap (λ m. map view (chain_in b (without n q) m)) (sym (parent_is k) ∙ ap parent s ∙ parent_is l))
@@ -107,7 +78,7 @@ all_in : (N : List ℕ → Type 0) (P : Class → Type 0) (a : ℕ) (p : Table) 
 unfolding chain_in
 all_in N P zero p closed holds n at = tt
 all_in N P (suc a) p closed holds n at =
-    go (all_in N P a (without n p) (λ m k here e. closed m k here (found_before p n m k e)) (λ m k here e. holds m k here (found_before p n m k e))) (declared p n) refl
+    go (all_in N P a (without n p) (λ m k here e. closed m k here (declared_before p n m k e)) (λ m k here e. holds m k here (declared_before p n m k e))) (declared p n) refl
   where
     go : ((m : List ℕ) → N m → Each P (chain_in a (without n p) m)) → (o : Option Class) → declared p n ≡ o → Each P (added (λ c. chain_in a (without n p) c.parent) o)
     go ih None d = tt

@@ -1,4 +1,3 @@
--- No public contract cites this: it serves the proofs.
 -- Lists without an item twice.
 use Rattle.std.specs.Prelude.{⊤, List, [], ◌∷◌}
 use Rattle.cfj_words.specs.Lists.{Has}

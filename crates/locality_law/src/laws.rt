@@ -1,12 +1,16 @@
 //! Laws over the definitions alone.
 
-ghost use Rattle.std.specs.Prelude.{◌≡◌, ◌↔◌, ℕ, List, ◌++◌, flat_map, Option};
+ghost use Rattle.std.specs.Prelude.{◌≡◌, ◌↔◌, ℕ, true, List, ◌++◌, flat_map, Option};
+ghost use Rattle.cfj_logic.specs.Selections.{Chosen};
 ghost use Rattle.cfj_model.specs.Judging.{Pair, pairs_of};
 ghost use Rattle.cfj_model.specs.ProductLines.{IsProject, ProductLine};
-ghost use Rattle.unit_facts.specs.Diagnostics.{AreExact, IsChecked};
+ghost use Rattle.cfj_model.specs.Projection.{projected};
+ghost use Rattle.cfj_words.specs.Lists.{Has};
+ghost use Rattle.locality_law.specs.Apart.{AreApart};
+ghost use Rattle.unit_facts.specs.Diagnostics.{AreExact, BreaksIn, IsChecked};
 ghost use Rattle.unit_facts.specs.Facts.{HasFacts};
 ghost use Rattle.unit_facts.specs.Judgements.{AreExactByUnits, IsExactFor, IsHonest, IsLocal, IsRightFor, IsSameFor, Judgement};
-ghost use Rattle.unit_facts.specs.Units.{IsUnit, unit_pairs, units_of};
+ghost use Rattle.unit_facts.specs.Units.{IsUnit, unit_judged, unit_pairs, units_of};
 ghost use Rattle.unit_facts.specs.declared.entry.Entry.{Entry};
 ghost use Rattle.unit_facts.specs.declared.entry.Verdict.{Verdict};
 ghost use Rattle.unit_facts.specs.declared.unit.Unit.{Unit};
@@ -29,6 +33,19 @@ pub fn exact_both()
 pub fn checked_by_units()
     ensures { (line : ProductLine) → IsProject line → (budget : ℕ) (v : Verdict) (es : List Entry) →
         IsChecked line budget v es ↔ AreExactByUnits line budget v (units_of line.classes) es }
+{}
+
+/// A law: no pair stands in a project twice.
+#[tactic(auto, using(crate::proofs::ApartPairs::pairs_apart))]
+pub fn pairs_apart()
+    ensures { (line : ProductLine) → IsProject line → AreApart (pairs_of line.classes) }
+{}
+
+/// A law: a pair of a unit breaks in a variant exactly where it is judged to break in the variant's unit.
+#[tactic(auto, using(crate::proofs::ByUnit::breaks_in_unit))]
+pub fn breaks_in_unit()
+    ensures { (line : ProductLine) → IsProject line → (u : Unit) (p : Pair) → Has (unit_pairs line.classes u) p → (s : Chosen)
+        → BreaksIn line p s ↔ Has (unit_judged (projected s line).classes u) (record { site = p.0; rule = p.1; breaks = true }) }
 {}
 
 /// The locality law: two projects with the same facts at what a unit reaches in one of them give the unit the same reach and the same

@@ -35,14 +35,7 @@ pub fn solve(alloc: Global, clauses: &Clauses, budget: u32) -> Result<Answer, Al
     let mut values = vec![in alloc; None; clauses.vars as usize]?;
     let mut trail = Vec::new(alloc);
     'search: loop {
-        let found = follow(
-            alloc,
-            clauses,
-            &log,
-            &mut premises,
-            &mut values,
-            &mut trail,
-        )?;
+        let found = follow(alloc, clauses, &log, &mut premises, &mut values, &mut trail)?;
         match found {
             None => match next_feature(clauses.features, values.as_slice()) {
                 None => {

@@ -5,8 +5,8 @@ use cfj_model::{Member, Name, ParseFault, Project, Site, read_site};
 use cide_io::MemSink;
 use command_words::{Asked, read_words};
 use fj_parser::{
-    Want, parse_class, parse_constructor, parse_expr, parse_member, parse_model, parse_name,
-    parse_project,
+    Role, Want, parse_class, parse_constructor, parse_expr, parse_member, parse_model, parse_name,
+    parse_project, token_roles,
 };
 use fj_printer::print_project;
 use std::alloc::{AllocError, Global};
@@ -38,6 +38,7 @@ fn told(alloc: Global, kind: &str, text: &str) -> Result<Option<Answer>, AllocEr
         "words" => Some(words_told(alloc, text)?),
         "path" => Some(path_told(alloc, text)?),
         "project" => Some(project_told(alloc, text)?),
+        "roles" => Some(roles_told(alloc, text)?),
         "model" => Some(model_told(alloc, text)?),
         "name" => Some(name_told(alloc, text)?),
         "expression" => Some(expression_told(alloc, text)?),
@@ -146,6 +147,53 @@ fn project_told(alloc: Global, text: &str) -> Result<Answer, AllocError> {
         Ok(out) => print_told(alloc, out),
         Err(fault) => refusal(alloc, fault),
     }
+}
+
+/// What a token in this role is called.
+fn role_word(role: Role<'_>) -> &'static str {
+    match role {
+        Role::FormatLine => "format",
+        Role::FeatureName(_) => "feature",
+        Role::MarkName(_) => "mark",
+        Role::FormulaName(_) => "feature in a formula",
+        Role::KnownName(_) => "feature elsewhere",
+        Role::ClassName(_) => "class",
+        Role::FieldName(_) => "field",
+        Role::MethodName(_) => "method",
+        Role::ParamName(_) => "parameter of a constructor",
+        Role::MethodParamName(_) => "parameter",
+        Role::SentName(_) => "sent",
+        Role::AssignedName(_) => "assigned",
+        Role::VarName(_) => "variable",
+        Role::UsedName(_) => "used",
+        Role::Sign => "sign",
+        Role::FormulaNode => "node of a formula",
+        Role::FormulaOpens(_) => "open node of a formula",
+        Role::Opens(_) => "bracket",
+        Role::Casts(_) => "cast",
+        Role::Node => "node",
+        Role::Other => "other",
+    }
+}
+
+/// The place of each token of a project, and what it is there.
+fn roles_told(alloc: Global, text: &str) -> Result<Answer, AllocError> {
+    let list = match token_roles(alloc, text) {
+        Ok(list) => list,
+        Err(fault) => return refusal(alloc, fault),
+    };
+    let mut out = Vec::new(alloc);
+    for token in list.as_slice() {
+        let at = token.at;
+        let word = role_word(token.role);
+        let line = format!(in alloc; "{at} {word}\n")?;
+        out.extend_from_slice(line.as_bytes())?;
+    }
+    Ok(Answer {
+        status: 0,
+        out,
+        err: Vec::new(alloc),
+    })
 }
 
 /// The number of a model's features.

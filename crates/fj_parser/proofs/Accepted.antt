@@ -175,10 +175,10 @@ nothing_more [] = refl
 nothing_more (r ∷ rs) = ap (λ x. r ∷ x) (nothing_more rs)
 
 -- what a token settles, where it waits itself, and where it doesn't
-settles_others : (s : State) (token : Token) → waits s token ≡ true → emitted s token ≡ expression.settled (settles s token) (pending s)
+pub settles_others : (s : State) (token : Token) → waits s token ≡ true → emitted s token ≡ expression.settled (settles s token) (pending s)
 settles_others s token own = ap (λ b. expression.settled (settles s token) (pending s) ++ expression.unless b (role s token)) own ∙ nothing_more _
 
-settles_itself : (s : State) (token : Token) → waits s token ≡ false → emitted s token ≡ expression.settled (settles s token) (pending s) ++ role s token ∷ []
+pub settles_itself : (s : State) (token : Token) → waits s token ≡ false → emitted s token ≡ expression.settled (settles s token) (pending s) ++ role s token ∷ []
 settles_itself s token own = ap (λ b. expression.settled (settles s token) (pending s) ++ expression.unless b (role s token)) own
 
 -- A token that waits is taken.

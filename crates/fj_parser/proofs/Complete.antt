@@ -9,13 +9,13 @@ use Rattle.cfj_model.specs.declared.class.Class.{Class}
 use Rattle.cfj_model.specs.declared.feature_model.Format.{Format}
 use Rattle.cfj_model.specs.declared.feature_model.Format.TheVariants.{One, Two}
 use Rattle.cfj_model.specs.declared.signed.Signed.{Signed}
-use Rattle.cfj_words.specs.Tokens.{Token, Id, ClassWord, ExtendsWord, SuperWord, ThisWord, ReturnWord, OpenBrace, CloseBrace, OpenParen, CloseParen, Semicolon, Comma, Dot, Equals, At, Bang, End}
+use Rattle.cfj_words.specs.Tokens.{Token, Id, ClassWord, ExtendsWord, SuperWord, ThisWord, ReturnWord, OpenBrace, CloseBrace, OpenParen, CloseParen, Semicolon, Comma, Dot, Equals, At, End}
 use Rattle.cfj_logic.specs.declared.formula.Formula.{Formula}
 use Rattle.cfj_model.specs.ExpressionGrammar.{spell_expr, roles_expr}
 use Rattle.cfj_model.specs.FormulaGrammar.{IffTree, spell_iff, roles_iff, value_iff}
 use Rattle.cfj_model.specs.Grammar.{Declared, Named, MethodTree, ClassTree, Tree, constraint_word, features_word, format_word, spell_name, spell_format, spell_features, spell_field, spell_param, spell_sent, spell_assign, spell_ctor, spell_method, spell_constraint, spell_class, spell, numbered, value_field, value_param, value_sent, value_ctor, value_method, value_class}
 use Rattle.cfj_model.specs.Marks.{in_order, each_behind, separated, spell_sign, spell_marks, roles_sign, roles_mark, roles_marks, marked, colored, colors_of}
-use Rattle.cfj_model.specs.Roles.{Role, format_line, sign, mark_name, class_name, method_name, assigned_name, used_name, other_token}
+use Rattle.cfj_model.specs.Roles.{Role, format_line, mark_name, class_name, method_name, assigned_name, used_name, other_token}
 use Rattle.cfj_model.specs.TreeRoles.{roles_format, roles_feature, roles_features, roles_field, roles_param, roles_method_param, roles_sent, roles_assign, roles_ctor, roles_method, roles_constraint, roles_class, roles}
 use Rattle.formula_reader.specs.Machine as formula
 use Rattle.formula_reader.specs.declared.mode.Mode as formula_mode

@@ -1,5 +1,5 @@
 -- What the role of one token says where it breaks nothing, of names.
-use Rattle.std.proofs.Common.{◌≡◌, ℕ, ◌<◌, Bool, true, false, List, [], ◌∷◌, length, refl, sym, subst, Some, None, nat_le}
+use Rattle.std.proofs.Common.{◌≡◌, ℕ, ◌<◌, Bool, true, false, List, [], ◌∷◌, length, refl, sym, subst, None, nat_le}
 use Rattle.std.proofs.lemmas.Bool.{and_from, ltb-false, leb-false, le-leb}
 use Rattle.std.proofs.lemmas.Option.{none-some}
 use Rattle.cfj_model.specs.declared.fault.FaultKind.{FaultKind}

@@ -1,4 +1,5 @@
 pub mod Accepted
+pub mod Adding
 pub mod Behind
 pub mod ClassClosing
 pub mod ClassLaw
@@ -27,6 +28,7 @@ pub mod KeptNames
 pub mod KeptParts
 pub mod Law
 pub mod LexedTokens
+pub mod Listed
 pub mod ListsSound
 pub mod MemberHeads
 pub mod MemberLaw

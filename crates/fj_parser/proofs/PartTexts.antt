@@ -18,10 +18,10 @@ use Rattle.fj_parser.proofs.Endings.{whole_text, stops_first}
 use Rattle.fj_parser.proofs.Readers.{settles_each}
 
 -- what holds of a part holds of its goal, format, features and class, and the other way
-abbrev Fact : Type 1
+abbrev pub Fact : Type 1
 Fact = Goal → Format → List (List ℕ) → List ℕ → Type 0
 
-to_goal : (P : Fact) (p : Part) (g : Goal) (format : Format) (features : List (List ℕ)) (class : List ℕ) → IsPart p g format features class → P p.goal p.format p.features.now p.class.now → P g format features class
+pub to_goal : (P : Fact) (p : Part) (g : Goal) (format : Format) (features : List (List ℕ)) (class : List ℕ) → IsPart p g format features class → P p.goal p.format p.features.now p.class.now → P g format features class
 to_goal P p g format features class is h =
     subst (λ x. P g format features x) is.class
     (subst (λ x. P g format x p.class.now) is.features

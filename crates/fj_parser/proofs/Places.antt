@@ -13,7 +13,8 @@ use Rattle.cfj_words.specs.Tokens.{Token, token_of, token_seen, place_of}
 use Rattle.fj_parser.specs.Accepting.{IsAccepted, IsBrokenAt, IsToldAt}
 use Rattle.fj_parser.specs.Laws.{Reads}
 use Rattle.fj_machine.specs.Readers.{Reader, SettlesEach}
-use Rattle.fj_parser.specs.Reading.{IsStanding, IsPlaced}
+use Rattle.fj_parser.specs.Reading.{IsPlaced}
+use Rattle.fj_parser.specs.TokenRoles.{IsStanding}
 use Rattle.fj_parser.proofs.Progress.{reads_first, reads_more, stands_here, ends_at_token, waiting_at_lexeme}
 use Rattle.fj_parser.proofs.Readers.{roles_long, settles_each}
 
@@ -25,11 +26,11 @@ get-drop (suc n) [] i = refl
 get-drop (suc n) (x ∷ xs) i = let e : suc (n + i) ≡ suc n + i = omega arith in get-drop n xs i ∙ ap (slice_get (x ∷ xs)) e
 
 -- an element of a list and one more is one of the list, or the last
-data Among (xs : List ℕ) (y i at : ℕ) : Type 0 where
+pub data Among (xs : List ℕ) (y i at : ℕ) : Type 0 where
   before : slice_get xs i ≡ Some at → i < length xs → Among xs y i at
   last : i ≡ length xs → at ≡ y → Among xs y i at
 
-among : (xs : List ℕ) (y i at : ℕ) → slice_get (xs ++ y ∷ []) i ≡ Some at → Among xs y i at
+pub among : (xs : List ℕ) (y i at : ℕ) → slice_get (xs ++ y ∷ []) i ≡ Some at → Among xs y i at
 among [] y zero at e = last refl (sym (same_Some y at e))
 among [] y (suc i) at e = absurd (none-some at e)
 among (x ∷ xs) y zero at e = before e (omega arith)
@@ -58,7 +59,7 @@ module _ (met : Tally) (m : Reader) (settles : SettlesEach m) where
   none_waits text rest s t h = no_more (m.pending s) (sym h.each)
 
   -- those that wait, and the one that comes next
-  all_stand : (text rest : List ℕ) (s : m.State) (t : Tally) (places : List ℕ) (h : IsPlaced met m text rest s t places) (token : Token) (here : List ℕ) (at : ℕ) → token_seen (next_lexeme (chars rest)) ≡ Some (token, here) → at ≡ place_of text here → (i told : ℕ) → slice_get (places ++ at ∷ []) i ≡ Some told → IsStanding text (take (length h.reading.roles + i) h.reading.tokens) told
+  pub all_stand : (text rest : List ℕ) (s : m.State) (t : Tally) (places : List ℕ) (h : IsPlaced met m text rest s t places) (token : Token) (here : List ℕ) (at : ℕ) → token_seen (next_lexeme (chars rest)) ≡ Some (token, here) → at ≡ place_of text here → (i told : ℕ) → slice_get (places ++ at ∷ []) i ≡ Some told → IsStanding text (take (length h.reading.roles + i) h.reading.tokens) told
   all_stand text rest s t places h token here at seen is i told e = go (among places at i told e)
     where
       go : Among places at i told → IsStanding text (take (length h.reading.roles + i) h.reading.tokens) told
@@ -70,7 +71,7 @@ module _ (met : Tally) (m : Reader) (settles : SettlesEach m) where
             is = same ∙ is;
           }
 
-  within_places : (places : List ℕ) (at i told : ℕ) → slice_get (places ++ at ∷ []) i ≡ Some told → i ≤ length places
+  pub within_places : (places : List ℕ) (at i told : ℕ) → slice_get (places ++ at ∷ []) i ≡ Some told → i ≤ length places
   within_places places at i told e = go (among places at i told e)
     where
       go : Among places at i told → i ≤ length places
@@ -78,7 +79,7 @@ module _ (met : Tally) (m : Reader) (settles : SettlesEach m) where
       go (last all same) = omega arith
 
   -- reading goes on by one token
-  pub placed_more : (text rest : List ℕ) (s n : m.State) (t u : Tally) (places left : List ℕ) (x : Lexeme) (from next : List ℕ) (at : ℕ) → IsPlaced met m text rest s t places → next_lexeme (chars rest) ≡ Found x from (chars next) → at ≡ place_of text from → IsAccepted m s t (token_of x) n u → left ≡ drop (length (m.emitted s (token_of x))) (places ++ at ∷ []) → IsPlaced met m text next n u left
+  unfoldable pub placed_more : (text rest : List ℕ) (s n : m.State) (t u : Tally) (places left : List ℕ) (x : Lexeme) (from next : List ℕ) (at : ℕ) → IsPlaced met m text rest s t places → next_lexeme (chars rest) ≡ Found x from (chars next) → at ≡ place_of text from → IsAccepted m s t (token_of x) n u → left ≡ drop (length (m.emitted s (token_of x))) (places ++ at ∷ []) → IsPlaced met m text next n u left
   placed_more text rest s n t u places left x from next at h found is a e =
       let k : ℕ = length (m.emitted s (token_of x)) in
       let once : k + length (m.pending n) ≡ suc (length (m.pending s)) = settles.each h.reading.tokens s n h.reading.roles (token_of x) h.reading.ran a.goes in

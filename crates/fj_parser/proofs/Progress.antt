@@ -27,7 +27,7 @@ pub within_append : (t : Tally) (rs qs : List Role) → AreWithin t rs → AreWi
 within_append t [] qs h k = k
 within_append t (r ∷ rs) qs h k = (h.0, within_append (counted t r) rs qs h.1 k)
 
-within_front : (t : Tally) (rs qs : List Role) → AreWithin t (rs ++ qs) → AreWithin t rs
+pub within_front : (t : Tally) (rs qs : List Role) → AreWithin t (rs ++ qs) → AreWithin t rs
 within_front t [] qs h = tt
 within_front t (r ∷ rs) qs h = (h.0, within_front (counted t r) rs qs h.1)
 
@@ -163,7 +163,7 @@ module _ {V : Type 0} (l : Language V) (m : Reader) (laws : Reads l m) where
 
   -- ---- reading ends with the whole text
 
-  pub ends_whole : (text rest : List ℕ) (s n : m.State) (t u : Tally) → IsUtf8 text → IsReading l.met m text rest s t → next_lexeme (chars rest) ≡ AtEnd → IsAccepted m s t End n u → IsTextOf l text (laws.stands_for n)
+  unfoldable pub ends_whole : (text rest : List ℕ) (s n : m.State) (t u : Tally) → IsUtf8 text → IsReading l.met m text rest s t → next_lexeme (chars rest) ≡ AtEnd → IsAccepted m s t End n u → IsTextOf l text (laws.stands_for n)
   ends_whole text rest s n t u utf8 h e a =
       let w : WholeText l m laws h.tokens n (h.roles ++ m.emitted s End) = text_read l m laws h.tokens s n h.roles h.ran a.goes in
       let all : AreWithin l.met (h.roles ++ m.emitted s End) = within_append l.met h.roles (m.emitted s End) h.within (subst (λ z. AreWithin z (m.emitted s End)) h.counts a.within) in

@@ -1,5 +1,5 @@
 -- A text stands for what a project's type keeps.
-use Rattle.std.proofs.Common.{◌≡◌, ℕ, true, List, [], length, refl, sym, subst, nat_le}
+use Rattle.std.proofs.Common.{◌≡◌, ℕ, true, List, [], refl, sym, subst, nat_le}
 use Rattle.std.specs.Str.{chars}
 use Rattle.std.proofs.lemmas.Bool.{and_parts}
 use Rattle.cfj_model.specs.declared.class.Class.{Class}

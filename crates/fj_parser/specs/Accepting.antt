@@ -30,9 +30,12 @@ pub record IsAccepted (m : Reader) (s : m.State) (t : Tally) (token : Token) (n 
 -- What refuses a token: a role that it settles, where it can go on; else a role that waits; else that it can't stand here. The
 -- number tells the place, among the tokens whose roles wait and then this token.
 pub data IsRefused (m : Reader) (s : m.State) (t : Tally) (token : Token) : ℕ → FaultKind → Type 0 where
-  settled : (place : ℕ) (kind : FaultKind) (n : m.State) → m.step s token ≡ Some n → BreaksAt t (m.emitted s token) place kind → IsRefused m s t token place kind
-  waiting : (place : ℕ) (kind : FaultKind) → m.step s token ≡ None → BreaksAt t (m.pending s) place kind → IsRefused m s t token place kind
-  misplaced : m.step s token ≡ None → AreWithin t (m.pending s) → IsRefused m s t token (length (m.pending s)) (misplaced_kind m s token)
+  settled : (place : ℕ) (kind : FaultKind) (n : m.State) → m.step s token ≡ Some n
+      → BreaksAt t (m.emitted s token) place kind → IsRefused m s t token place kind
+  waiting : (place : ℕ) (kind : FaultKind) → m.step s token ≡ None
+      → BreaksAt t (m.pending s) place kind → IsRefused m s t token place kind
+  misplaced : m.step s token ≡ None → AreWithin t (m.pending s)
+      → IsRefused m s t token (length (m.pending s)) (misplaced_kind m s token)
 
 -- The first of these roles that breaks something is that of the token at this place, of the places of their tokens.
 pub record IsBrokenAt (t : Tally) (rs : List Role) (places : List ℕ) (at : ℕ) (kind : FaultKind) : Type 0 where

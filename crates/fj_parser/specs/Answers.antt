@@ -10,6 +10,12 @@ IsReadAs value (Ok read) = read ≡ value
 IsReadAs value (Err NoMemory) = Unit {0}
 IsReadAs value (Err (At at kind)) = ⊥
 
+-- Something was read, unless there was no memory.
+abbrev pub IsRead : {V : Type 0} → Result V ParseFault → Type 0
+IsRead (Ok read) = Unit {0}
+IsRead (Err NoMemory) = Unit {0}
+IsRead (Err (At at kind)) = ⊥
+
 -- This fault at this place is told, unless there was no memory.
 abbrev pub IsRefusedAs : {V : Type 0} → ℕ → FaultKind → Result V ParseFault → Type 0
 IsRefusedAs at kind (Ok read) = ⊥

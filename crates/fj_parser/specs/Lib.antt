@@ -5,5 +5,7 @@ pub mod Ending
 pub mod GoalViews
 pub mod Goals
 pub mod Laws
+pub mod Listing
 pub mod Reading
+pub mod TokenRoles
 pub mod Waiting

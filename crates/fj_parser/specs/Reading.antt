@@ -2,14 +2,14 @@
 -- How the parser stands towards the text that it reads.
 use Rattle.std.specs.Prelude.{◌≡◌, ℕ, ◌+◌, List, length, take, slice_get, Some}
 use Rattle.std.specs.Str.{chars}
-use Rattle.cfj_model.specs.Faults.{StandsBehind}
 use Rattle.cfj_model.specs.Roles.{Role, Tally, tallied, AreWithin}
-use Rattle.cfj_words.specs.Tokens.{Token, Takes, place_of}
+use Rattle.cfj_words.specs.Tokens.{Token, Takes}
 use Rattle.cfj_model.specs.declared.fault.FaultKind.{FaultKind}
 use Rattle.cfj_model.specs.declared.fault.FaultKind.TheVariants as fault
 use Rattle.fj_lexer.specs.declared.token.LexFault.{LexFault}
 use Rattle.fj_lexer.specs.declared.token.LexFault.TheVariants.{BadChar, OpenComment}
 use Rattle.fj_machine.specs.Readers.{Reader, run_of}
+use Rattle.fj_parser.specs.TokenRoles.{IsStanding}
 
 -- The tokens before the rest of a text are read: by the reader, and by the tally behind what was met, which found nothing that
 -- breaks among the roles that are settled.
@@ -20,12 +20,6 @@ pub record IsReading (met : Tally) (m : Reader) (text rest : List ℕ) (s : m.St
   pub ran : run_of m tokens m.start ≡ (Some s, roles)
   pub within : AreWithin met roles
   pub counts : t ≡ tallied met roles
-
--- Behind these tokens another one stands, at this place.
-pub record IsStanding (text : List ℕ) (before : List Token) (at : ℕ) : Type 0 where
-  pub from : List ℕ
-  pub stands : StandsBehind text before from
-  pub is : at ≡ place_of text from
 
 -- And the tokens whose roles wait, which stand behind those whose roles are settled, stand at these places.
 pub record IsPlaced (met : Tally) (m : Reader) (text rest : List ℕ) (s : m.State) (t : Tally) (places : List ℕ) : Type 0 where

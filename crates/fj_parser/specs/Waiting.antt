@@ -29,6 +29,11 @@ abbrev pub waiting_left : Settling → Waiting → Waiting
 waiting_left Stays w = w
 waiting_left _ w = Nothing
 
+-- the places of those that don't wait any more
+abbrev pub settled_places : Settling → List ℕ → List ℕ
+settled_places Stays places = []
+settled_places _ places = places
+
 -- the role of a token that waited, by what became of it
 abbrev pub settled_role : Settling → Role → Role
 settled_role Cast r = as_cast r

@@ -22,6 +22,9 @@
 //! Up to three tokens of an expression wait: behind `(x)` the next token says whether the bracket was a cast's. `Waiting` keeps
 //! them with their places, and their rules and limits are tested once their roles are settled, in the order of the text.
 //! `Places.antt` shows that each stands where `Waiting` says.
+//!
+//! `token_roles` reads a project by the same machine and tells what each token of it is, and its place: it lists the tokens that a token
+//! settles before the machine takes it. `specs/TokenRoles.antt` says what the list is, and `proofs/Listed.antt` that it is that.
 #![tactic(auto)]
 
 mod accept;
@@ -38,14 +41,19 @@ mod part;
 mod passage;
 mod reading;
 mod results;
+mod role_list;
 mod settle;
+mod token_role;
 mod waiting;
 
 pub use cfj_model::{FaultKind, LimitKind, Member, ParseFault, Want};
 pub use class_text::parse_class;
 pub use constructor_text::parse_constructor;
 pub use expr_text::parse_expr;
+pub use fj_symbols::Role;
 pub use member_text::parse_member;
 pub use model_text::parse_model;
 pub use name_text::parse_name;
 pub use parser::parse_project;
+pub use role_list::token_roles;
+pub use token_role::TokenRole;

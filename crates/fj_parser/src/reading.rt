@@ -46,7 +46,7 @@ fn lexical(fault: LexFault) -> Refusal
 }
 
 /// The first fault where the lexer has one: what waits stands before it, and can't become a cast's.
-fn first_fault<'a>(
+pub fn first_fault<'a>(
     alloc: Global,
     tally: &mut Tally<'a>,
     waiting: Waiting<'a>,
@@ -60,7 +60,7 @@ fn first_fault<'a>(
     }
 }
 
-fn fault_of(refusal: Refusal) -> ParseFault
+pub fn fault_of(refusal: Refusal) -> ParseFault
     ensures { result ≡ ParseFault.At refusal.at refusal.kind }
 {
     let Refusal { at, kind } = refusal;
@@ -68,7 +68,7 @@ fn fault_of(refusal: Refusal) -> ParseFault
 }
 
 /// Takes one token in, or tells the first fault and its place.
-fn take<'a>(
+pub fn take<'a>(
     alloc: Global,
     part: &Part<'a>,
     machine: &mut Machine<'a>,

@@ -32,7 +32,7 @@ fn count<'a>(
 }
 
 /// The role of the bracket, by what becomes of it.
-fn bracket_role<'a>(settling: Settling, depth: usize) -> Role<'a>
+pub fn bracket_role<'a>(settling: Settling, depth: usize) -> Role<'a>
     ensures { role_seen result ≡ settled_role settling (opens depth) }
 {
     match settling {
@@ -42,7 +42,7 @@ fn bracket_role<'a>(settling: Settling, depth: usize) -> Role<'a>
 }
 
 /// The role of the identifier in it.
-fn name_role<'a>(settling: Settling, name: &'a str) -> Role<'a>
+pub fn name_role<'a>(settling: Settling, name: &'a str) -> Role<'a>
     ensures { role_seen result ≡ settled_role settling (var_name name.now) }
 {
     match settling {

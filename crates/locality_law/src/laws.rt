@@ -42,7 +42,6 @@ pub fn pairs_apart()
 {}
 
 /// A law: a pair of a unit breaks in a variant exactly where it is judged to break in the variant's unit.
-#[tactic(auto, using(crate::proofs::ByUnit::breaks_in_unit))]
 pub fn breaks_in_unit()
     ensures { (line : ProductLine) → IsProject line → (u : Unit) (p : Pair) → Has (unit_pairs line.classes u) p → (s : Chosen)
         → BreaksIn line p s ↔ Has (unit_judged (projected s line).classes u) (record { site = p.0; rule = p.1; breaks = true }) }
@@ -50,7 +49,6 @@ pub fn breaks_in_unit()
 
 /// The locality law: two projects with the same facts at what a unit reaches in one of them give the unit the same reach and the same
 /// pairs, and in the variants of every selection the same of these pairs break.
-#[tactic(auto, using(crate::proofs::UnitLaws::local))]
 pub fn local()
     ensures { IsLocal }
 {}
@@ -63,7 +61,6 @@ pub fn exact_there()
 {}
 
 /// A law: a judgement that is right for one project which has its facts is honest.
-#[tactic(auto, using(crate::proofs::Exact::honest_here))]
 pub fn honest_here()
     ensures { (q : ProductLine) (j : Judgement) → IsProject q → IsUnit q j.unit → HasFacts q j.facts → IsRightFor j q → IsHonest j }
 {}

@@ -19,7 +19,7 @@ record IsTakenIn (s : Chosen) (old new : Search) : Type 0 where
   verdict : new.verdict ≡ first_answer old.verdict s
   log : new.log ≡ old.log
 
-taken : (c : goal.After-drop-variant-inside-4) → IsTakenIn c.args.selection c.args.self.now c.if-is_none.self
+taken : (c : goal.After-drop-variant-inside-5) → IsTakenIn c.args.selection c.args.self.now c.if-is_none.self
 taken c =
     elim c.if-is_none.branch [
       | then-is_none w ↦

@@ -1,5 +1,6 @@
 -- Why a line is no request: its first cause.
-use Rattle.std.specs.Prelude.{◌≡◌, ℕ, ◌||◌, Bool, not, List, [], ◌∷◌, codes, find, Option, option_and_then, Some, None, is_none, IsSome}
+use Rattle.std.specs.Prelude.{◌≡◌, ℕ, ◌||◌, Bool, not, List, [], ◌∷◌, codes, find}
+use Rattle.std.specs.Prelude.{Option, option_and_then, Some, None, is_none, IsSome}
 use Rattle.std.specs.List.{list_any}
 use Rattle.std.specs.Str.{bytes_eq}
 use Rattle.serde_json.specs.Data.{Data, string, Members, no_members, member}
@@ -9,7 +10,8 @@ use Rattle.session_requests.specs.Fields.{HasAllRight, IsFirstWrong}
 use Rattle.session_requests.specs.declared.op.Op.{Op}
 use Rattle.session_requests.specs.declared.field.Field.{Field}
 use Rattle.session_requests.specs.declared.bad_line.BadLine.{BadLine}
-use Rattle.session_requests.specs.declared.bad_line.BadLine.TheVariants.{NotJson, NotObject, NoOp, UnknownOp, MissingField, WrongField, ExtraField}
+use Rattle.session_requests.specs.declared.bad_line.BadLine.TheVariants.{NotJson, NotObject, NoOp, UnknownOp}
+use Rattle.session_requests.specs.declared.bad_line.BadLine.TheVariants.{MissingField, WrongField, ExtraField}
 
 -- the object has this string as its `op`
 abbrev pub HasOpText : Data → List ℕ → Type 0

@@ -50,11 +50,14 @@ HasMember d f m = HasSite d f (member_site m)
 
 -- the object has an array of these identifiers in the field
 abbrev pub HasNames : Data → Field → List (List ℕ) → Type 0
-HasNames d f names = (get (key f) d ≡ Some (array (text_items (λ name. name) names))) × AllPass is_short_identifier names
+HasNames d f names =
+    (get (key f) d ≡ Some (array (text_items (λ name. name) names))) × AllPass is_short_identifier names
 
 -- the object has an array of these marks in the field, each an identifier or `!` and an identifier
 abbrev pub HasMarks : Data → Field → List Signed → Type 0
-HasMarks d f marks = (get (key f) d ≡ Some (array (text_items mark_text marks))) × AllPass (λ mark. is_short_identifier mark.name) marks
+HasMarks d f marks =
+    (get (key f) d ≡ Some (array (text_items mark_text marks)))
+    × AllPass (λ mark. is_short_identifier mark.name) marks
 
 -- what the object has in the field is right for it
 abbrev pub HasRight : Field → Data → Type 0

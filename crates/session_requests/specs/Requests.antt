@@ -5,7 +5,8 @@ use Rattle.cfj_model.specs.declared.edit.Edit.TheVariants as edit
 use Rattle.serde_json.specs.Data.{Data}
 use Rattle.session_requests.specs.Fields.{HasNumber, HasText, HasName, HasSite, HasMember, HasNames, HasMarks}
 use Rattle.session_requests.specs.BadLines.{HasOp, first_extra}
-use Rattle.session_requests.specs.declared.field.Field.TheVariants.{Base, Class, Member, Path, Text, Super, Colors, Select, Feature}
+use Rattle.session_requests.specs.declared.field.Field.TheVariants.{Base, Class, Member, Path, Text}
+use Rattle.session_requests.specs.declared.field.Field.TheVariants.{Super, Colors, Select, Feature}
 use Rattle.session_requests.specs.declared.op.EditOp.{EditOp}
 use Rattle.session_requests.specs.declared.op.EditOp.TheVariants as edit_op
 use Rattle.session_requests.specs.declared.op.Op.{Op}

@@ -6,7 +6,7 @@
 //!
 //! Rests on `json_lines` for what a line is as JSON, and on `cfj_model` for edits, names and paths; nothing that these read is
 //! read again here. `specs/Ops.antt` is the table of ops and fields, `Fields` says which values are right, `BadLines` and
-//! `Requests` say what is told of data, and `Reads` of a line. `edit_value` writes an edit as the object that asks for it.
+//! `Requests` say what is told of data, and `Reads` of a line.
 #![tactic(auto)]
 
 mod bad_line;

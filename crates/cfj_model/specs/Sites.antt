@@ -2,6 +2,8 @@
 use Rattle.std.specs.Prelude.{◌≡◌, ℕ, ◌<◌, ◌^◌, true, ◌==◌, List, [], ◌++◌, codes, if◌then◌else◌}
 use Rattle.std.specs.Fmt.{decimal}
 use Rattle.cfj_words.specs.Names.{is_short_identifier}
+use Rattle.cfj_model.specs.declared.member_name.MemberName.{MemberName}
+use Rattle.cfj_model.specs.declared.member_name.MemberName.TheVariants as member
 use Rattle.cfj_model.specs.declared.site.Site.{Site}
 use Rattle.cfj_model.specs.declared.site.Site.TheVariants as site
 use Rattle.cfj_model.specs.declared.site_ref.SiteRef.{SiteRef}
@@ -27,6 +29,11 @@ site_text (site.Assign c i) = c ++ (codes ".new.this(" ++ (decimal i ++ codes ")
 site_text (site.Method c m alt) = c ++ (codes "." ++ member_text m alt (codes "()"))
 site_text (site.Param c m alt i) = c ++ (codes "." ++ member_text m alt (codes "(" ++ (decimal i ++ codes ")")))
 site_text (site.Node c m alt n) = c ++ (codes "." ++ member_text m alt (codes "()#" ++ decimal n))
+
+-- the site of a member
+abbrev pub member_site : MemberName → Site
+member_site (member.Field c f alt) = site.Field c f alt
+member_site (member.Method c m alt) = site.Method c m alt
 
 -- the site that a reference names
 abbrev pub site_ref_seen : SiteRef → Site

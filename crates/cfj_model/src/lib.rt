@@ -12,6 +12,7 @@ mod edit;
 mod expr;
 mod fault;
 mod feature_model;
+mod limits;
 mod member;
 mod member_name;
 mod path;
@@ -33,6 +34,10 @@ pub use edit::Edit;
 pub use expr::{Arg, Expr};
 pub use fault::{FaultKind, LimitKind, ParseFault};
 pub use feature_model::{FeatureModel, Format};
+pub use limits::{
+    MOST_CLASSES, MOST_FEATURES, MOST_FIELDS, MOST_FORMULA_NODES, MOST_IN_CTOR, MOST_METHODS,
+    MOST_NEST, MOST_NODES, MOST_PARAMS, MOST_SIZE,
+};
 pub use member::Member;
 pub use member_name::MemberName;
 pub use path::read_site;

@@ -1,7 +1,9 @@
 //! The names of members.
 
 ghost use Rattle.std.specs.Prelude.{◌≡◌, IfOk};
+ghost use Rattle.cfj_model.specs.Sites as spec;
 
+use crate::site_ref::SiteRef;
 use cfj_words::Name;
 use std::alloc::{AllocError, Global};
 
@@ -15,6 +17,16 @@ pub enum MemberName {
 }
 
 impl MemberName {
+    /// The site that the member is at.
+    pub fn site(&self) -> SiteRef<'_>
+        ensures { spec.site_ref_seen result ≡ spec.member_site self.now }
+    {
+        match self {
+            MemberName::Field(class, field, alt) => SiteRef::Field(class, field, *alt),
+            MemberName::Method(class, method, alt) => SiteRef::Method(class, method, *alt),
+        }
+    }
+
     /// The same member, in memory of its own.
     pub fn copy(&self, alloc: Global) -> Result<MemberName, AllocError>
         ensures { IfOk result (λ member. member ≡ self.now) }

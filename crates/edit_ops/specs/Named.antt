@@ -6,14 +6,13 @@ use Rattle.std.specs.Str.{bytes_eq}
 use Rattle.cfj_model.specs.Expressions.{slots}
 use Rattle.cfj_model.specs.LookUps.{Table, declared}
 use Rattle.cfj_model.specs.ProductLines.{ProductLine}
+use Rattle.cfj_model.specs.Sites.{member_site}
 use Rattle.cfj_model.specs.declared.class.Class.{Class}
 use Rattle.cfj_model.specs.declared.class.Method.{Method}
 use Rattle.cfj_model.specs.declared.class.Param.{Param}
 use Rattle.cfj_model.specs.declared.class.Sent.{Sent}
 use Rattle.cfj_model.specs.declared.edit.Edit.{Edit}
 use Rattle.cfj_model.specs.declared.edit.Edit.TheVariants as edit
-use Rattle.cfj_model.specs.declared.member_name.MemberName.{MemberName}
-use Rattle.cfj_model.specs.declared.member_name.MemberName.TheVariants as member
 use Rattle.cfj_model.specs.declared.site.Site.{Site}
 use Rattle.cfj_model.specs.declared.site.Site.TheVariants as site
 
@@ -59,10 +58,6 @@ has_site p (site.Assign c slot) = is_class p c (λ k. has_sent slot k.ctor.assig
 has_site p (site.Method c m alt) = is_method p c m alt (λ d. true)
 has_site p (site.Param c m alt slot) = is_method p c m alt (λ d. has_param slot d.params)
 has_site p (site.Node c m alt slot) = is_method p c m alt (has_node slot)
-
-abbrev pub member_site : MemberName → Site
-member_site (member.Field c f alt) = site.Field c f alt
-member_site (member.Method c m alt) = site.Method c m alt
 
 -- the class, the member or the node that an edit names; a new class and another model name none
 abbrev pub named : Edit → Option Site

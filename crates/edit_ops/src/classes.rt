@@ -10,15 +10,9 @@ ghost use Rattle.edit_ops.specs.Changes as spec;
 ghost use Rattle.edit_ops.specs.Named.{has_site};
 
 use crate::refused::EditRefused;
-use cfj_model::{Class, Constructor, LimitKind, Name, Project};
+use cfj_model::{Class, Constructor, LimitKind, MOST_CLASSES, MOST_SIZE, Name, Project};
 use std::alloc::{AllocError, Global};
 use std::mem;
-
-/// The most classes of a project.
-const MOST_CLASSES: usize = 1024;
-
-/// The most declarations, sent names, assignments and nodes of a project.
-const MOST_SIZE: usize = 1_000_000;
 
 /// Whether a class may become the last of a project.
 fn may_be_added(alloc: Global, project: &Project, class: &Class) -> Result<(), EditRefused>

@@ -6,17 +6,8 @@ ghost use Rattle.cfj_model.specs.Sites.{site_ref_seen};
 ghost use Rattle.edit_ops.specs.Named as spec;
 
 use crate::found::has_site;
-use cfj_model::{Edit, MemberName, Project, Site, SiteRef};
+use cfj_model::{Edit, Project, Site, SiteRef};
 use std::alloc::{AllocError, Global};
-
-fn member_site(member: &MemberName) -> SiteRef<'_>
-    ensures { site_ref_seen result ≡ spec.member_site member.now }
-{
-    match member {
-        MemberName::Field(class, field, alt) => SiteRef::Field(class, field, *alt),
-        MemberName::Method(class, method, alt) => SiteRef::Method(class, method, *alt),
-    }
-}
 
 /// The class, the member or the node that an edit names; `None` for a new class and for another model.
 pub fn named(edit: &Edit) -> Option<SiteRef<'_>>
@@ -29,7 +20,7 @@ pub fn named(edit: &Edit) -> Option<SiteRef<'_>>
         | Edit::SetSuper { class, .. }
         | Edit::SetConstructor { class, .. } => Some(SiteRef::Class(class)),
         Edit::ReplaceMember { member, .. } | Edit::RemoveMember { member } => {
-            Some(member_site(member))
+            Some(member.site())
         }
         Edit::SetColors { site, .. } => Some(site.as_ref()),
     }

@@ -5,12 +5,12 @@ ghost use Rattle.cfj_model.specs.Roles as spec;
 ghost use Rattle.fj_tally.specs.Views.{tally_seen, with_declaration, Admits};
 ghost use Rattle.fj_symbols.specs.Views.{role_seen};
 
-use crate::rules::{
-    MOST_CLASSES, MOST_FEATURES, MOST_FIELDS, MOST_FORMULA_NODES, MOST_IN_CTOR, MOST_METHODS,
-    MOST_NODES, MOST_PARAMS, is_deep, is_long,
-};
+use crate::rules::{is_deep, is_long};
 use crate::tally::Tally;
-use cfj_model::Format;
+use cfj_model::{
+    Format, MOST_CLASSES, MOST_FEATURES, MOST_FIELDS, MOST_FORMULA_NODES, MOST_IN_CTOR,
+    MOST_METHODS, MOST_NODES, MOST_PARAMS,
+};
 use fj_symbols::Role;
 use std::alloc::AllocError;
 

@@ -8,39 +8,12 @@ ghost use Rattle.fj_tally.specs.Views.{broken_in_list, tally_seen};
 ghost use Rattle.fj_symbols.specs.Views.{is_identifier_role, role_seen};
 
 use crate::tally::Tally;
-use cfj_model::{FaultKind, Format, LimitKind, MOST_NAME_BYTES};
+use cfj_model::{
+    FaultKind, Format, LimitKind, MOST_CLASSES, MOST_FEATURES, MOST_FIELDS, MOST_FORMULA_NODES,
+    MOST_IN_CTOR, MOST_METHODS, MOST_NAME_BYTES, MOST_NEST, MOST_NODES, MOST_PARAMS, MOST_SIZE,
+};
 use fj_symbols::{Role, name_of};
 use std::alloc::{AllocError, Global};
-
-/// The most features in a project.
-pub(crate) const MOST_FEATURES: usize = 128;
-
-/// The most nodes in all formulas of a project.
-pub(crate) const MOST_FORMULA_NODES: usize = 4096;
-
-/// The most constructs open at once in an expression or a formula.
-const MOST_NEST: usize = 64;
-
-/// The most classes in a project.
-pub(crate) const MOST_CLASSES: usize = 1024;
-
-/// The most fields in a class.
-pub(crate) const MOST_FIELDS: usize = 64;
-
-/// The most methods in a class.
-pub(crate) const MOST_METHODS: usize = 256;
-
-/// The most parameters of a method.
-pub(crate) const MOST_PARAMS: usize = 16;
-
-/// The most items in each list of a constructor.
-pub(crate) const MOST_IN_CTOR: usize = 1024;
-
-/// The most nodes in a body.
-pub(crate) const MOST_NODES: usize = 1024;
-
-/// The most declarations, sent names, assignments and nodes in a project.
-const MOST_SIZE: usize = 1_000_000;
 
 pub(crate) fn is_long(name: &str) -> bool
     ensures { result ≡ spec.is_long name.now }

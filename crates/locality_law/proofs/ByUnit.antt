@@ -26,7 +26,7 @@ use Rattle.feature_views.proofs.Variants.{variant_is_project}
 use Rattle.class_table.proofs.Without.{declared_has, declared_name}
 use Rattle.class_table.proofs.Members.{find_has, has_left, has_right, is_name, name_is}
 use Rattle.unit_facts.specs.Diagnostics.{BreaksIn}
-use Rattle.unit_facts.specs.Units.{class_units, is_declaration, judged_own, method_in, of_some, unit_judged, unit_of, unit_pairs, units_of}
+use Rattle.unit_facts.specs.Units.{class_units, is_declaration, judged_own, placed_method, of_some, unit_judged, unit_of, unit_pairs, units_of}
 use Rattle.unit_facts.specs.declared.unit.Unit.{Unit}
 use Rattle.unit_facts.specs.declared.unit.Unit.TheVariants as unit
 use Rattle.locality_law.proofs.Items.{Each, IsAlone, each_both, each_has, each_of, flat_each, flat_has, has_flat, map_has}
@@ -90,7 +90,7 @@ unit_inside p (unit.Class c) j h = go (declared p c) refl h
     go (Some k) e h = each_has (IsInside (unit.Class k.name)) (judged_own p k) (own_inside p k) j h ∙ ap (λ n. unit.Class n) (declared_name p c k e)
 unit_inside p (unit.Method c m alt) j h = go (declared p c) refl h
   where
-    inner : (k : Class) → k.name ≡ c → (o : Option (Placed Method)) → method_in m alt k ≡ o → Has (of_some (judged_method p k) o) j → unit_of j.site ≡ unit.Method c m alt
+    inner : (k : Class) → k.name ≡ c → (o : Option (Placed Method)) → placed_method m alt k ≡ o → Has (of_some (judged_method p k) o) j → unit_of j.site ≡ unit.Method c m alt
     inner k named None e h = absurd (let none : ⊥ = cc h.1 in none)
     inner k named (Some q) e h =
         let test = (find_has (λ (w : Placed Method). is_declaration m alt w.item) (placed k.methods) q e).1 in
@@ -99,9 +99,9 @@ unit_inside p (unit.Method c m alt) j h = go (declared p c) refl h
         ∙ ap (λ n. unit.Method n q.item.name q.item.alt) named
         ∙ ap₂ (λ n a. unit.Method c n a) (name_is q.item.name m both.0) (eqb-true q.item.alt alt both.1)
 
-    go : (o : Option Class) → declared p c ≡ o → Has (of_some (λ k. of_some (judged_method p k) (method_in m alt k)) o) j → unit_of j.site ≡ unit.Method c m alt
+    go : (o : Option Class) → declared p c ≡ o → Has (of_some (λ k. of_some (judged_method p k) (placed_method m alt k)) o) j → unit_of j.site ≡ unit.Method c m alt
     go None e h = absurd (let none : ⊥ = cc h.1 in none)
-    go (Some k) e h = inner k (declared_name p c k e) (method_in m alt k) refl h
+    go (Some k) e h = inner k (declared_name p c k e) (placed_method m alt k) refl h
 
 -- ---- a class, part by part
 
@@ -125,7 +125,7 @@ unit_in_project p (unit.Class c) j h = go (declared p c) refl h
         (subst (λ w. Has w j) (sym (class_parts p k)) (has_left (judged_own p k) (flat_map (judged_method p k) (placed k.methods)) j h))
 unit_in_project p (unit.Method c m alt) j h = go (declared p c) refl h
   where
-    inner : (k : Class) → Has p k → (o : Option (Placed Method)) → method_in m alt k ≡ o → Has (of_some (judged_method p k) o) j → Has (flat_map (judged_class p) p) j
+    inner : (k : Class) → Has p k → (o : Option (Placed Method)) → placed_method m alt k ≡ o → Has (of_some (judged_method p k) o) j → Has (flat_map (judged_class p) p) j
     inner k here None e h = absurd (let none : ⊥ = cc h.1 in none)
     inner k here (Some q) e h =
         has_flat (judged_class p) p k j here
@@ -133,9 +133,9 @@ unit_in_project p (unit.Method c m alt) j h = go (declared p c) refl h
         (has_right (judged_own p k) (flat_map (judged_method p k) (placed k.methods)) j
         (has_flat (judged_method p k) (placed k.methods) q j (find_has (λ (w : Placed Method). is_declaration m alt w.item) (placed k.methods) q e).0 h)))
 
-    go : (o : Option Class) → declared p c ≡ o → Has (of_some (λ k. of_some (judged_method p k) (method_in m alt k)) o) j → Has (flat_map (judged_class p) p) j
+    go : (o : Option Class) → declared p c ≡ o → Has (of_some (λ k. of_some (judged_method p k) (placed_method m alt k)) o) j → Has (flat_map (judged_class p) p) j
     go None e h = absurd (let none : ⊥ = cc h.1 in none)
-    go (Some k) e h = inner k (declared_has p c k e) (method_in m alt k) refl h
+    go (Some k) e h = inner k (declared_has p c k e) (placed_method m alt k) refl h
 
 -- ---- unit by unit
 
@@ -177,7 +177,7 @@ module _ (p : Table) (apart : AreNamedApart p) (rise : (k : Class) → Has p k �
           (alone_found (λ (w : Placed Method). is_declaration q.item.name q.item.alt w.item) (placed k.methods)
           (placed_alone (is_declaration q.item.name q.item.alt) [] k.methods (rise_alone q.item.name q.item.alt k.methods (rise k here)))
           q at (and_from (bytes_eq q.item.name q.item.name) (q.item.alt == q.item.alt) (is_name q.item.name q.item.name refl) (eq-eqb q.item.alt q.item.alt refl))))
-          ∙ sym (ap (of_some (λ k. of_some (judged_method p k) (method_in q.item.name q.item.alt k))) found)
+          ∙ sym (ap (of_some (λ k. of_some (judged_method p k) (placed_method q.item.name q.item.alt k))) found)
 
       methods : flat_map (judged_method p k) (placed k.methods) ≡ flat_map (unit_judged p) (map method_unit k.methods)
       methods =

@@ -25,7 +25,7 @@ use Rattle.class_table.proofs.Without.{declared_name}
 use Rattle.class_table.proofs.Members.{all_has, find_has, has_map, is_name, mapped, name_is, none_find}
 use Rattle.unit_facts.specs.Facts.{method_at, signature_of, signatures_of}
 use Rattle.unit_facts.specs.Reach.{methods_called_by}
-use Rattle.unit_facts.specs.Units.{is_declaration, method_in, of_some, unit_judged}
+use Rattle.unit_facts.specs.Units.{is_declaration, placed_method, of_some, unit_judged}
 use Rattle.unit_facts.specs.declared.unit.Unit.TheVariants as unit
 use Rattle.locality_law.proofs.Bodies.{Agree, If, judged_same}
 use Rattle.locality_law.proofs.Items.{Each, IsAlone, each_has, find_kept, flat_each, each_of, left_of}
@@ -133,14 +133,14 @@ placed_found {A} test before (x ∷ xs) = go (test x) (placed_found test (before
     go true ih = refl
     go false ih = ih
 
-pub method_found : (m : List ℕ) (alt : ℕ) (k : Class) → option_map (λ (q : Placed Method). q.item) (method_in m alt k) ≡ find (is_declaration m alt) k.methods
+pub method_found : (m : List ℕ) (alt : ℕ) (k : Class) → option_map (λ (q : Placed Method). q.item) (placed_method m alt k) ≡ find (is_declaration m alt) k.methods
 method_found m alt k = placed_found (is_declaration m alt) [] k.methods
 
 -- a method that is there, and its class
 pub class_of_method : (p : Table) (c m : List ℕ) (alt : ℕ) (d : Method) → method_at p c m alt ≡ Some d → (k : Class) × (declared p c ≡ Some k) × (find (is_declaration m alt) k.methods ≡ Some d)
 class_of_method p c m alt d e = go (declared p c) refl e
   where
-    go : (o : Option Class) → declared p c ≡ o → option_and_then (λ k. option_map (λ (q : Placed Method). q.item) (method_in m alt k)) o ≡ Some d
+    go : (o : Option Class) → declared p c ≡ o → option_and_then (λ k. option_map (λ (q : Placed Method). q.item) (placed_method m alt k)) o ≡ Some d
         → (k : Class) × (declared p c ≡ Some k) × (find (is_declaration m alt) k.methods ≡ Some d)
     go None q f = absurd (let none : ⊥ = cc f in none)
     go (Some k) q f = (k, q, sym (method_found m alt k) ∙ f)
@@ -217,7 +217,7 @@ again_among m alt before (x ∷ xs) q e h = go (again_among m alt (before ++ x �
         stays_again m alt (before ++ x ∷ []) xs q f (more_before m before x ∙ ap₂ (λ a b. a || (b || false)) h r) ∙ sym (ap not t)
     go ih false r c t f = ih f (more_before m before x ∙ ap₂ (λ a b. a || (b || false)) h r)
 
-again_known : (m : List ℕ) (alt : ℕ) (k : Class) (q : Placed Method) → method_in m alt k ≡ Some q → is_again method_name_of q ≡ not (is_first alt (option_map sig_seen (method_called m k)))
+again_known : (m : List ℕ) (alt : ℕ) (k : Class) (q : Placed Method) → placed_method m alt k ≡ Some q → is_again method_name_of q ≡ not (is_first alt (option_map sig_seen (method_called m k)))
 again_known m alt k q e =
     let test = (find_has (λ (q : Placed Method). is_declaration m alt q.item) (placed k.methods) q e).1 in
     ap (is_among (map method_name_of q.before)) (name_is q.item.name m (and_parts (bytes_eq q.item.name m) (q.item.alt == alt) test).0)
@@ -245,7 +245,7 @@ method_unit s p apart c m alt k d found rise here =
     v = projected_class s k
 
     inside : Class → List RuleAt
-    inside w = of_some (judged_method t w) (method_in m alt w)
+    inside w = of_some (judged_method t w) (placed_method m alt w)
 
     again : Bool
     again = not (is_first alt (first_present s k.colors (signatures_of m k)))
@@ -256,18 +256,18 @@ method_unit s p apart c m alt k d found rise here =
     left : Option Method
     left = cond (keeps d) (Some (projected_method s k.colors d)) None
 
-    item_is : option_map (λ (q : Placed Method). q.item) (method_in m alt v) ≡ left
+    item_is : option_map (λ (q : Placed Method). q.item) (placed_method m alt v) ≡ left
     item_is =
         method_found m alt v
         ∙ find_kept (projected_method s k.colors) keeps (is_declaration m alt) (is_declaration m alt) (λ e. refl) k.methods (rise_alone m alt k.methods rise)
         ∙ ap (option_and_then (left_of (projected_method s k.colors) keeps)) here
 
-    at : (o : Option (Placed Method)) → method_in m alt v ≡ o → of_some (judged_method t v) o ≡ of_some (judged_named t c again) left
+    at : (o : Option (Placed Method)) → placed_method m alt v ≡ o → of_some (judged_method t v) o ≡ of_some (judged_named t c again) left
     at None e = ap (of_some (judged_named t c again)) (ap (option_map (λ (q : Placed Method). q.item)) (sym e) ∙ item_is)
     at (Some q) e =
         ap₂ (λ n b. judged_named t n b q.item) (declared_name p c k found) (again_known m alt v q e ∙ ap (λ o. not (is_first alt o)) (sig_in_variant s k.colors m k.methods))
         ∙ ap (of_some (judged_named t c again)) (ap (option_map (λ (q : Placed Method). q.item)) (sym e) ∙ item_is)
 
     go : (b : Bool) → of_some inside (cond b (Some v) None) ≡ cond b (of_some (judged_named t c again) left) []
-    go true = at (method_in m alt v) refl
+    go true = at (placed_method m alt v) refl
     go false = refl

@@ -13,7 +13,7 @@ use Rattle.cfj_words.specs.Lists.{Has}
 use Rattle.class_table.proofs.Members.{find_distinct, has_cases, has_none, is_name, unlike}
 use Rattle.unit_facts.specs.Facts.{method_at, own_at, own_of}
 use Rattle.unit_facts.specs.Judgements.{IsLocal, IsSameFor, SameFacts}
-use Rattle.unit_facts.specs.Units.{IsUnit, class_units, is_declaration, method_in, units_of}
+use Rattle.unit_facts.specs.Units.{IsUnit, class_units, is_declaration, placed_method, units_of}
 use Rattle.unit_facts.specs.declared.unit.Key.TheVariants as key
 use Rattle.unit_facts.specs.declared.unit.Unit.{Unit}
 use Rattle.unit_facts.specs.declared.unit.Unit.TheVariants as unit
@@ -77,7 +77,7 @@ method_of_unit q project c m alt h = go (has_cases (unit.Class home.0.name) (map
 
     at : (d : Method) → Has home.0.methods d → method_at q.classes home.0.name d.name d.alt ≡ Some d
     at d there =
-        ap (option_and_then (λ k. option_map (λ (w : Placed Method). w.item) (method_in d.name d.alt k))) (class_declared q.classes project.classes_distinct home.0 home.1)
+        ap (option_and_then (λ k. option_map (λ (w : Placed Method). w.item) (placed_method d.name d.alt k))) (class_declared q.classes project.classes_distinct home.0 home.1)
         ∙ method_found d.name d.alt home.0
         ∙ declaration_found home.0 (kept_class q project home.0 home.1).rise d there
 

@@ -15,7 +15,7 @@ use Rattle.class_table.proofs.Without.{declared_name}
 use Rattle.unit_facts.specs.Pairs.{ctor_pairs, field_pairs, method_pairs, pairs_at}
 use Rattle.unit_facts.proofs.ProjectPairs.{ctor_listed, method_listed, pairs_append, placed_pairs}
 use Rattle.unit_facts.specs.Facts.{method_at, own_at, own_of}
-use Rattle.unit_facts.specs.Units.{judged_own, method_in, of_some, unit_pairs}
+use Rattle.unit_facts.specs.Units.{judged_own, placed_method, of_some, unit_pairs}
 use Rattle.unit_facts.specs.declared.unit.Unit.TheVariants as unit
 
 -- a class with a name and nothing else
@@ -46,7 +46,7 @@ method_pairs_known p c m alt = go (declared p c) refl
     here k named None = refl
     here k named (Some q) = method_listed p k q ∙ ap (λ n. method_pairs (class_called n) q.item) named
 
-    go : (o : Option Class) → declared p c ≡ o → map pair_of (of_some (λ k. of_some (judged_method p k) (method_in m alt k)) o)
-        ≡ of_some (method_pairs (class_called c)) (option_and_then (λ k. option_map (λ (q : Placed Method). q.item) (method_in m alt k)) o)
+    go : (o : Option Class) → declared p c ≡ o → map pair_of (of_some (λ k. of_some (judged_method p k) (placed_method m alt k)) o)
+        ≡ of_some (method_pairs (class_called c)) (option_and_then (λ k. option_map (λ (q : Placed Method). q.item) (placed_method m alt k)) o)
     go None e = refl
-    go (Some k) e = here k (declared_name p c k e) (method_in m alt k)
+    go (Some k) e = here k (declared_name p c k e) (placed_method m alt k)

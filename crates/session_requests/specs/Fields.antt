@@ -2,22 +2,15 @@
 use Rattle.std.specs.Prelude.{◌≡◌, ◌⊎◌, ℕ, ◌^◌, ◌<◌, true, List, [], ◌∷◌, Some, if◌then◌else◌}
 use Rattle.std.specs.List.{AllPass}
 use Rattle.cfj_words.specs.Names.{is_short_identifier}
-use Rattle.cfj_model.specs.Sites.{site_text, IsPath}
+use Rattle.cfj_model.specs.Sites.{site_text, member_site, IsPath}
 use Rattle.cfj_model.specs.declared.member_name.MemberName.{MemberName}
-use Rattle.cfj_model.specs.declared.member_name.MemberName.TheVariants as member
 use Rattle.cfj_model.specs.declared.signed.Signed.{Signed}
 use Rattle.cfj_model.specs.declared.site.Site.{Site}
-use Rattle.cfj_model.specs.declared.site.Site.TheVariants as site
 use Rattle.serde_json.specs.Data.{Data, number, unsigned, string, array, Items, no_items, item}
 use Rattle.serde_json.specs.Find.{get}
 use Rattle.session_requests.specs.Ops.{key}
 use Rattle.session_requests.specs.declared.field.Field.{Field}
 use Rattle.session_requests.specs.declared.field.Field.TheVariants as field
-
--- the site of a member
-abbrev pub member_site : MemberName → Site
-member_site (member.Field c f alt) = site.Field c f alt
-member_site (member.Method c m alt) = site.Method c m alt
 
 -- a mark by name: the name, behind a `!` where the feature isn't wanted
 abbrev pub mark_text : Signed → List ℕ

@@ -2,9 +2,9 @@
 
 ghost use Rattle.std.specs.Prelude.{◌≡◌, ◌∷◌, List, ℕ, IfOk, IfSome, IfNone, MatchOption, true, false};
 ghost use Rattle.cfj_words.specs.Names.{is_short_identifier};
-ghost use Rattle.cfj_model.specs.Sites.{site_text, IsPath};
+ghost use Rattle.cfj_model.specs.Sites.{site_text, IsPath, member_site};
 ghost use Rattle.cfj_model.specs.declared.member_name.MemberName.{MemberName as SeenMember};
-ghost use Rattle.session_requests.specs.Fields.{member_site, mark_text};
+ghost use Rattle.session_requests.specs.Fields.{mark_text};
 
 use cfj_model::{MOST_NAME_BYTES, MemberName, Name, Signed, Site, is_identifier, read_site};
 use std::alloc::{AllocError, Global};

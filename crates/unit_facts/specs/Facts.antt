@@ -11,7 +11,7 @@ use Rattle.cfj_model.specs.declared.class.Method.{Method}
 use Rattle.cfj_model.specs.declared.class.Param.{Param}
 use Rattle.cfj_model.specs.declared.feature_model.FeatureModel.{FeatureModel}
 use Rattle.cfj_words.specs.Lists.{Has}
-use Rattle.unit_facts.specs.Units.{method_in}
+use Rattle.unit_facts.specs.Units.{placed_method}
 use Rattle.unit_facts.specs.declared.unit.Key.{Key}
 use Rattle.unit_facts.specs.declared.unit.Key.TheVariants as key
 use Rattle.unit_facts.specs.declared.unit.Unit.{Unit}
@@ -80,7 +80,7 @@ own_at p c = option_map own_of (declared p c)
 
 abbrev pub method_at : Table → List ℕ → List ℕ → ℕ → Option Method
 method_at p c m alt =
-    option_and_then (λ k. option_map (λ (d : Placed Method). d.item) (method_in m alt k)) (declared p c)
+    option_and_then (λ k. option_map (λ (d : Placed Method). d.item) (placed_method m alt k)) (declared p c)
 
 -- ---- the fact at a key
 

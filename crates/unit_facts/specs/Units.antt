@@ -32,8 +32,8 @@ abbrev pub is_declaration : List ℕ → ℕ → Method → Bool
 is_declaration m alt d = bytes_eq d.name m && (d.alt == alt)
 
 -- the method of this name and alt, with those before it in its class
-abbrev pub method_in : List ℕ → ℕ → Class → Option (Placed Method)
-method_in m alt k = find (λ d. is_declaration m alt d.item) (placed k.methods)
+abbrev pub placed_method : List ℕ → ℕ → Class → Option (Placed Method)
+placed_method m alt k = find (λ d. is_declaration m alt d.item) (placed k.methods)
 
 -- what there is of something that may be absent
 abbrev pub of_some : {A B : Type 0} → (A → List B) → Option A → List B
@@ -50,7 +50,7 @@ judged_own p k =
 abbrev pub unit_judged : Table → Unit → List RuleAt
 unit_judged p unit.Model = []
 unit_judged p (unit.Class c) = of_some (judged_own p) (declared p c)
-unit_judged p (unit.Method c m alt) = of_some (λ k. of_some (judged_method p k) (method_in m alt k)) (declared p c)
+unit_judged p (unit.Method c m alt) = of_some (λ k. of_some (judged_method p k) (placed_method m alt k)) (declared p c)
 
 -- the pairs of a unit
 abbrev pub unit_pairs : Table → Unit → List Pair

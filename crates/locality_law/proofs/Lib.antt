@@ -14,6 +14,7 @@ pub mod Methods
 pub mod NodeSites
 pub mod SampleReach
 pub mod SeenChains
+pub mod SeenPairs
 pub mod SeenVariants
 pub mod Together
 pub mod Told

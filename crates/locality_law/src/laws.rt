@@ -1,12 +1,13 @@
 //! Laws over the definitions alone.
 
-ghost use Rattle.std.specs.Prelude.{◌≡◌, ◌↔◌, ℕ, true, List, ◌++◌, flat_map, Option};
+ghost use Rattle.std.specs.Prelude.{◌≡◌, ◌↔◌, ℕ, true, List, ◌++◌, flat_map, map, Option};
 ghost use Rattle.cfj_logic.specs.Selections.{Chosen};
-ghost use Rattle.cfj_model.specs.Judging.{Pair, pairs_of};
+ghost use Rattle.cfj_model.specs.Judging.{Pair, pair_of, pairs_of};
 ghost use Rattle.cfj_model.specs.ProductLines.{IsProject, ProductLine};
 ghost use Rattle.cfj_model.specs.Projection.{projected};
 ghost use Rattle.cfj_words.specs.Lists.{Has};
 ghost use Rattle.locality_law.specs.Apart.{AreApart};
+ghost use Rattle.locality_law.specs.Seen.{seen_unit};
 ghost use Rattle.unit_facts.specs.Diagnostics.{AreExact, BreaksIn, IsChecked};
 ghost use Rattle.unit_facts.specs.Facts.{HasFacts};
 ghost use Rattle.unit_facts.specs.Judgements.{AreExactByUnits, IsExactFor, IsHonest, IsLocal, IsRightFor, IsSameFor, Judgement};
@@ -63,4 +64,10 @@ pub fn exact_there()
 /// A law: a judgement that is right for one project which has its facts is honest.
 pub fn honest_here()
     ensures { (q : ProductLine) (j : Judgement) → IsProject q → IsUnit q j.unit → HasFacts q j.facts → IsRightFor j q → IsHonest j }
+{}
+
+/// A law: the aligned reading of a unit has the pairs of the unit, in their order, whatever is selected.
+#[tactic(auto, using(crate::proofs::SeenPairs::seen_pairs))]
+pub fn seen_pairs()
+    ensures { (s : Chosen) (line : ProductLine) (u : Unit) → map pair_of (seen_unit s line u) ≡ unit_pairs line.classes u }
 {}

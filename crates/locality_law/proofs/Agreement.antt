@@ -1,22 +1,21 @@
 -- Where the facts at classes and methods are the same, look-ups in the variants agree there.
-use Rattle.std.proofs.Common.{◌≡◌, ◌⊎◌, inl, inr, ℕ, Bool, true, false, ◌||◌, cond, List, [], ◌∷◌, ◌++◌, map, Option, None, Some, is_some, option_map, refl, sym, ◌∙◌, ap, ap₂, subst}
-use Rattle.std.specs.List.{find, filter}
-use Rattle.std.specs.Prelude.{⊤}
+use Rattle.std.proofs.Common.{◌≡◌, ℕ, Bool, true, false, ◌||◌, cond, List, [], ◌∷◌, map, Option, None, Some, is_some, option_map, refl, sym, ◌∙◌, ap, ap₂, subst}
+use Rattle.std.specs.List.{filter}
 use Rattle.std.specs.Str.{bytes_eq}
 use Rattle.cfj_logic.specs.Selections.{Chosen}
 use Rattle.cfj_model.specs.LookUps.{Table, chain, declared, field_called, field_of, first_some, is_known, method_called, method_of}
 use Rattle.cfj_model.specs.ProductLines.{object}
-use Rattle.cfj_model.specs.Projection.{bare_field, is_present, presence_of, projected_class, projected_method}
+use Rattle.cfj_model.specs.Projection.{bare_field, is_present, presence_of, projected_method}
 use Rattle.cfj_model.specs.declared.class.Class.{Class}
 use Rattle.cfj_model.specs.declared.class.Field.{Field}
 use Rattle.cfj_model.specs.declared.class.Method.{Method}
 use Rattle.cfj_words.specs.Lists.{Has}
-use Rattle.class_table.proofs.Members.{filter_has, find_has, has_filter, has_left, has_map, is_name, mapped}
+use Rattle.class_table.proofs.Members.{filter_has, find_has, has_filter, has_map}
 use Rattle.unit_facts.specs.Facts.{Head, Signature, Taken, head_at, head_of, signature_of, signatures_at, signatures_in}
 use Rattle.unit_facts.specs.Reach.{signature_types, types_of_fields}
 use Rattle.locality_law.proofs.Bodies.{Agree, If}
 use Rattle.locality_law.proofs.Items.{Each, has_flat, map_has}
-use Rattle.locality_law.proofs.SeenChains.{AreAlike, ClassSeen, HeadSeen, IsClosed, SigSeen, below_same, chain_all, chain_same, class_seen, field_same, fields_same, head_seen, heads_alike, method_same, overridden_same, sig_seen}
+use Rattle.locality_law.proofs.SeenChains.{AreAlike, ClassSeen, HeadSeen, below_same, chain_all, chain_same, class_seen, field_same, fields_same, head_seen, method_same, overridden_same}
 use Rattle.locality_law.proofs.SeenVariants.{AreNamedApart, class_in_variant, classes_known, head_in_variant, heads_known, shown_of, variant_of}
 
 -- the same heads at these classes

@@ -1,13 +1,12 @@
 -- No pair of a project stands in it twice.
-use Rattle.std.proofs.Common.{◌≡◌, ◌⊎◌, inl, inr, ℕ, Bool, true, false, not, nat_le, List, [], ◌∷◌, ◌++◌, map, refl, sym, ◌∙◌, ap, ap₂, subst}
+use Rattle.std.proofs.Common.{◌≡◌, ℕ, true, false, not, nat_le, List, [], ◌∷◌, ◌++◌, map, refl, sym, ◌∙◌, ap, subst}
 use Rattle.std.specs.List.{flat_map}
-use Rattle.std.specs.Prelude.{⊤}
 use Rattle.std.proofs.lemmas.List.{map-append}
 use Rattle.cfj_model.specs.Expressions.{slots}
-use Rattle.cfj_model.specs.Judging.{Pair, RuleAt, Ruling, environment_of, extends_itself, judged, judged_at, judged_class, judged_ctor, judged_expr, judged_field, judged_method, pair_of, pairs_of, rank}
+use Rattle.cfj_model.specs.Judging.{Pair, RuleAt, Ruling, environment_of, judged, judged_at, judged_class, judged_ctor, judged_expr, judged_field, judged_method, pair_of, pairs_of, rank}
 use Rattle.cfj_model.specs.LookUps.{Table, is_known}
 use Rattle.cfj_model.specs.Members.{Placed, placed, placed_behind}
-use Rattle.cfj_model.specs.ProductLines.{IsProject, ProductLine, rise_from}
+use Rattle.cfj_model.specs.ProductLines.{IsProject, ProductLine}
 use Rattle.cfj_model.specs.declared.class.Class.{Class}
 use Rattle.cfj_model.specs.declared.class.Field.{Field}
 use Rattle.cfj_model.specs.declared.class.Method.{Method}
@@ -16,7 +15,6 @@ use Rattle.cfj_model.specs.declared.site.Rule.{Rule}
 use Rattle.cfj_model.specs.declared.site.Rule.TheVariants.{K1, K2, K3, K4, K5, K6, K7, K8, K9}
 use Rattle.cfj_model.specs.declared.site.Site.{Site}
 use Rattle.cfj_model.specs.declared.site.Site.TheVariants as site
-use Rattle.cfj_words.specs.Lists.{Has}
 use Rattle.locality_law.specs.Apart.{AreApart}
 use Rattle.locality_law.proofs.ApartLists.{alts_apart, apart_by, apart_flat, apart_tested, names_apart, rising_apart}
 use Rattle.locality_law.proofs.ClassUnits.{each_placed}

@@ -1,8 +1,8 @@
 -- A body is judged alike by two tables whose look-ups agree at the classes that it reaches and the methods that it calls.
-use Rattle.std.proofs.Common.{◌≡◌, ◌⊎◌, inl, inr, ℕ, Bool, true, false, not, ◌&&◌, ◌==◌, List, [], ◌∷◌, ◌++◌, length, map, Option, None, Some, is_some, option_map, refl, sym, ◌∙◌, ap, ap₂, subst, cond}
+use Rattle.std.proofs.Common.{◌≡◌, ℕ, Bool, true, false, not, ◌&&◌, ◌==◌, List, [], ◌∷◌, ◌++◌, length, map, Option, None, Some, is_some, option_map, refl, sym, ◌∙◌, ap, ap₂, subst, cond}
 use Rattle.std.specs.Prelude.{⊤}
 use Rattle.cfj_model.proofs.ExprCases.{Proved, args_of, by_cases, fold_var, fold_get, fold_call, fold_new, fold_cast, of_arg}
-use Rattle.cfj_model.specs.Judging.{Fit, JudgedExpr, Ruling, accessed, argument_rules, called, field_types, fit_numbers, fit_of, fits, is_unrelated, judged_access, judged_arg, judged_call, judged_cast, judged_expr, judged_new, judged_step, judged_variable, misfits, result_type, type_if, types_of, unjudged, variable_type, with_ruling}
+use Rattle.cfj_model.specs.Judging.{Fit, JudgedExpr, accessed, argument_rules, called, field_types, fit_of, fits, is_unrelated, judged_access, judged_arg, judged_call, judged_cast, judged_expr, judged_new, judged_step, judged_variable, misfits, result_type, type_if, types_of, variable_type, with_ruling}
 use Rattle.cfj_model.specs.LookUps.{Table, all_fields, ancestors, field_of, first_some, is_known, is_subtype, method_called, method_of}
 use Rattle.cfj_model.specs.Typing.{Environment, classes_named_by, classes_named_step, joined, param_types}
 use Rattle.cfj_model.specs.declared.class.Field.{Field}
@@ -12,7 +12,7 @@ use Rattle.cfj_model.specs.declared.expr.Expr.{Expr}
 use Rattle.cfj_model.specs.declared.expr.Expr.TheVariants as e
 use Rattle.cfj_model.specs.declared.site.Rule.TheVariants.{K1, E2, E3, E4, E5, E6, E7, E8}
 use Rattle.unit_facts.specs.Reach.{methods_called_by, methods_called_step}
-use Rattle.locality_law.proofs.Items.{Each, each_both, each_left, each_right}
+use Rattle.locality_law.proofs.Items.{Each, each_left, each_right}
 use Rattle.locality_law.proofs.SeenChains.{SigSeen, sig_seen}
 
 -- where there is one, it has it

@@ -1,7 +1,6 @@
 -- What a body of a variant names and calls, the line's body does.
-use Rattle.std.proofs.Common.{◌≡◌, ℕ, Bool, true, false, cond, List, [], ◌∷◌, ◌++◌, map, refl, sym, ◌∙◌, ap, subst}
-use Rattle.std.specs.List.{filter, flat_map}
-use Rattle.std.specs.Prelude.{⊤}
+use Rattle.std.proofs.Common.{ℕ, Bool, true, false, cond, List, [], ◌∷◌, ◌++◌, map, sym, ◌∙◌, ap, subst}
+use Rattle.std.specs.List.{filter}
 use Rattle.cfj_logic.specs.Selections.{Chosen}
 use Rattle.cfj_logic.specs.Sides.{Sides}
 use Rattle.cfj_model.proofs.ExprCases.{Proved, args_of, by_cases}
@@ -9,7 +8,6 @@ use Rattle.cfj_model.specs.Projection.{presence_of, projected_expr}
 use Rattle.cfj_model.specs.Typing.{classes_named_by}
 use Rattle.cfj_model.specs.declared.expr.Arg.{Arg}
 use Rattle.cfj_model.specs.declared.expr.Expr.{Expr}
-use Rattle.cfj_model.specs.declared.expr.Expr.TheVariants as e
 use Rattle.feature_views.proofs.SelectedBodies.{arg_present, projected_arg, projected_args, projected_var, projected_get, projected_call, projected_new, projected_cast}
 use Rattle.unit_facts.specs.Reach.{methods_called_by}
 use Rattle.locality_law.proofs.Bodies.{calls_call, calls_cast, calls_get, calls_new, calls_of_args, names_call, names_cast, names_get, names_new, names_of_args}

@@ -1,7 +1,6 @@
 -- What is judged in a project is what is judged in its units, in their order; each site tells its unit.
-use Rattle.std.proofs.Common.{◌≡◌, ◌⊎◌, ◌↔◌, inl, inr, ℕ, ◌==◌, Bool, true, false, not, ◌&&◌, cond, List, [], ◌∷◌, ◌++◌, map, Option, None, Some, option_map, refl, sym, ◌∙◌, ap, ap₂, subst}
+use Rattle.std.proofs.Common.{◌≡◌, ◌↔◌, ℕ, ◌==◌, Bool, true, false, not, cond, List, [], ◌∷◌, ◌++◌, map, Option, None, Some, refl, sym, ◌∙◌, ap, ap₂, subst}
 use Rattle.std.specs.List.{find, flat_map}
-use Rattle.std.specs.Prelude.{⊤}
 use Rattle.std.specs.Str.{bytes_eq}
 use Rattle.std.proofs.lemmas.Bool.{and_from, and_parts, eq-eqb, eqb-true}
 use Rattle.std.proofs.lemmas.Grind.{flat_map-append}
@@ -14,11 +13,9 @@ use Rattle.cfj_model.specs.Members.{Placed, method_alts_rise, placed, placed_beh
 use Rattle.cfj_model.specs.ProductLines.{IsProject, ProductLine}
 use Rattle.cfj_model.specs.Projection.{projected}
 use Rattle.cfj_model.specs.declared.class.Class.{Class}
-use Rattle.cfj_model.specs.declared.class.Field.{Field}
 use Rattle.cfj_model.specs.declared.class.Method.{Method}
 use Rattle.cfj_model.specs.declared.class.Param.{Param}
-use Rattle.cfj_model.specs.declared.site.Rule.{Rule}
-use Rattle.cfj_model.specs.declared.site.Rule.TheVariants.{K1, K2, K3, K4, K5, K6, K7, K8, K9}
+use Rattle.cfj_model.specs.declared.site.Rule.TheVariants.{K1, K2}
 use Rattle.cfj_model.specs.declared.site.Site.{Site}
 use Rattle.cfj_model.specs.declared.site.Site.TheVariants as site
 use Rattle.cfj_words.specs.Lists.{Has}

@@ -1,11 +1,11 @@
 -- A class's unit is the same in two projects that have the same facts at its reach.
-use Rattle.std.proofs.Common.{◌≡◌, ◌⊎◌, inl, inr, ℕ, Bool, true, false, cond, List, [], ◌∷◌, ◌++◌, map, Option, None, Some, option_map, refl, sym, ◌∙◌, ap, subst}
+use Rattle.std.proofs.Common.{◌≡◌, ◌⊎◌, inl, inr, ℕ, Bool, true, false, cond, List, [], ◌∷◌, ◌++◌, map, None, Some, option_map, refl, sym, ◌∙◌, ap, subst}
 use Rattle.std.specs.List.{filter}
 use Rattle.std.specs.Str.{bytes_eq}
 use Rattle.cfj_logic.specs.Selections.{Chosen}
-use Rattle.cfj_model.specs.LookUps.{Table, chain, declared, is_known}
+use Rattle.cfj_model.specs.LookUps.{chain, declared, is_known}
 use Rattle.cfj_model.specs.ProductLines.{IsProject, ProductLine, object}
-use Rattle.cfj_model.specs.Projection.{bare_field, bare_param, is_present, presence_of, projected, projected_class}
+use Rattle.cfj_model.specs.Projection.{bare_field, bare_param, is_present, presence_of, projected_class}
 use Rattle.cfj_model.specs.Typing.{param_types}
 use Rattle.cfj_model.specs.declared.class.Class.{Class}
 use Rattle.cfj_model.specs.declared.class.Field.{Field}
@@ -13,19 +13,18 @@ use Rattle.cfj_model.specs.declared.class.Param.{Param}
 use Rattle.cfj_words.specs.Lists.{Has}
 use Rattle.class_table.proofs.Without.{declared_name}
 use Rattle.class_table.proofs.Members.{filter_has, has_cases, has_either, has_left, has_map, has_right, mapped, name_is}
-use Rattle.unit_facts.specs.Facts.{Contents, Head, class_is, fact, head_at, head_of, own_at, own_of}
+use Rattle.unit_facts.specs.Facts.{class_is, fact, head_at, head_of, own_at, own_of}
 use Rattle.unit_facts.specs.Judgements.{IsSameFor, SameFacts}
 use Rattle.unit_facts.specs.Reach.{ClassReaches, InClassReach, InReach, IsAbove, types_of_fields}
-use Rattle.unit_facts.specs.Units.{judged_own, of_some, unit_judged, unit_pairs}
+use Rattle.unit_facts.specs.Units.{judged_own, of_some, unit_judged}
 use Rattle.unit_facts.specs.declared.unit.Key.{Key}
 use Rattle.unit_facts.specs.declared.unit.Key.TheVariants as key
-use Rattle.unit_facts.specs.declared.unit.Unit.{Unit}
 use Rattle.unit_facts.specs.declared.unit.Unit.TheVariants as unit
 use Rattle.locality_law.proofs.Agreement.{known_by_head, same_heads}
 use Rattle.locality_law.proofs.ClassUnits.{class_unit, own_same, shown_own}
 use Rattle.locality_law.proofs.Items.{map_has}
 use Rattle.locality_law.proofs.SeenChains.{head_seen}
-use Rattle.locality_law.proofs.SeenVariants.{AreNamedApart, variant_is, variant_of}
+use Rattle.locality_law.proofs.SeenVariants.{variant_is, variant_of}
 use Rattle.locality_law.proofs.Told.{above_back, above_there, head_told, no_object, some_told}
 use Rattle.locality_law.proofs.UnitPairs.{class_pairs_known, own_pairs}
 

@@ -1,11 +1,10 @@
 -- A class of a variant is judged by what is seen of the classes above it, and of those that it names.
-use Rattle.std.proofs.Common.{◌≡◌, ℕ, Bool, true, false, not, cond, List, [], ◌∷◌, ◌++◌, map, Option, None, Some, is_some, option_map, refl, sym, ◌∙◌, ap, ap₂, subst}
-use Rattle.std.specs.List.{flat_map, list_any}
+use Rattle.std.proofs.Common.{◌≡◌, ℕ, Bool, true, false, not, cond, List, [], ◌∷◌, ◌++◌, map, Option, None, Some, option_map, refl, ◌∙◌, ap, ap₂}
+use Rattle.std.specs.List.{flat_map}
 use Rattle.std.specs.Option.{option_and_then}
-use Rattle.std.specs.Str.{bytes_eq}
 use Rattle.cfj_logic.specs.Selections.{Chosen}
 use Rattle.cfj_model.specs.Judging.{RuleAt, are_same, extends_itself, judged_at, judged_ctor, judged_field, takes_fields}
-use Rattle.cfj_model.specs.LookUps.{Table, all_fields, ancestors, chain, declared, field_called, is_known}
+use Rattle.cfj_model.specs.LookUps.{Table, all_fields, chain, declared, is_known}
 use Rattle.cfj_model.specs.Members.{Placed, field_name_of, is_again, placed, placed_behind}
 use Rattle.cfj_model.specs.Projection.{is_present, projected_class}
 use Rattle.cfj_model.specs.Typing.{param_types}
@@ -20,8 +19,8 @@ use Rattle.unit_facts.specs.Facts.{own_at, own_of}
 use Rattle.unit_facts.specs.Reach.{types_of_fields}
 use Rattle.unit_facts.specs.Units.{judged_own, of_some, unit_judged}
 use Rattle.unit_facts.specs.declared.unit.Unit.TheVariants as unit
-use Rattle.locality_law.proofs.Items.{Each, each_has, each_of, flat_each}
-use Rattle.locality_law.proofs.SeenChains.{HeadSeen, any_parent_same, fields_same, head_seen, inherited_same}
+use Rattle.locality_law.proofs.Items.{Each, each_of, flat_each}
+use Rattle.locality_law.proofs.SeenChains.{any_parent_same, fields_same, head_seen, inherited_same}
 use Rattle.locality_law.proofs.SeenVariants.{AreNamedApart, declared_variant, shown, variant_of}
 
 -- items with those before them are items

@@ -1,5 +1,5 @@
 -- What is exact for a unit, and honest of it, holds wherever its facts are the same.
-use Rattle.std.proofs.Common.{◌≡◌, ◌↔◌, ℕ, true, List, length, map, Option, None, Some, sym, ◌∙◌, ap, subst}
+use Rattle.std.proofs.Common.{◌≡◌, ℕ, true, List, length, Option, None, Some, sym, ◌∙◌, ap, subst}
 use Rattle.cfj_logic.specs.Selections.{Chosen}
 use Rattle.cfj_logic.specs.Validity.{IsValid}
 use Rattle.cfj_model.specs.Judging.{Pair, RuleAt}
@@ -10,7 +10,6 @@ use Rattle.unit_facts.proofs.Alike.{AreValidAlike, BreaksAlike, all_exact, right
 use Rattle.unit_facts.specs.Diagnostics.{AreExact, IsValidFor}
 use Rattle.unit_facts.specs.Facts.{Contents, HasFacts, fact}
 use Rattle.unit_facts.specs.Judgements.{IsExactFor, IsHonest, IsRightFor, IsSameFor, IsVerdictFor, Judgement, SameFacts}
-use Rattle.unit_facts.specs.Reach.{IsReach}
 use Rattle.unit_facts.specs.Units.{IsUnit, unit_pairs}
 use Rattle.unit_facts.specs.declared.entry.Entry.{Entry}
 use Rattle.unit_facts.specs.declared.entry.Verdict.{Verdict}

@@ -1,15 +1,14 @@
 -- The reach as a list: names that are closed under what they lead to, and the keys that they make.
-use Rattle.std.proofs.Common.{◌≡◌, ◌⊎◌, ◌↔◌, inl, inr, ℕ, Bool, true, false, List, [], ◌∷◌, ◌++◌, map, Option, None, Some, refl, sym, ◌∙◌, ap, ap₂, subst}
+use Rattle.std.proofs.Common.{◌≡◌, ◌⊎◌, ◌↔◌, inl, inr, ℕ, List, [], ◌∷◌, ◌++◌, map, Option, None, Some, refl, sym, ◌∙◌, ap, ap₂, subst}
 use Rattle.std.specs.List.{flat_map}
 use Rattle.std.specs.Prelude.{⊤}
 use Rattle.cfj_model.specs.LookUps.{Table}
 use Rattle.cfj_model.specs.ProductLines.{ProductLine}
-use Rattle.cfj_model.specs.Typing.{method_uses}
 use Rattle.cfj_model.specs.declared.class.Class.{Class}
 use Rattle.cfj_model.specs.declared.class.Method.{Method}
 use Rattle.cfj_words.specs.Lists.{Has}
 use Rattle.class_table.proofs.Members.{has_cases, has_either, has_left, has_map, has_none, has_rest, has_right}
-use Rattle.unit_facts.specs.Facts.{Head, Signature, head_at, method_at, own_at, signatures_at}
+use Rattle.unit_facts.specs.Facts.{Head, head_at, method_at, own_at, signatures_at}
 use Rattle.unit_facts.specs.Reach.{ClassReaches, InClassReach, InMethodReach, InReach, IsNotObject, MethodReaches, Reaches, keys_of, methods_asked, signature_types, types_of_fields}
 use Rattle.unit_facts.specs.declared.unit.Key.{Key}
 use Rattle.unit_facts.specs.declared.unit.Key.TheVariants as key

@@ -13,8 +13,11 @@ pub mod MethodLaw
 pub mod Methods
 pub mod NodeSites
 pub mod SampleReach
+pub mod SeenBodies
+pub mod SeenBroken
 pub mod SeenChains
 pub mod SeenPairs
+pub mod SeenTells
 pub mod SeenVariants
 pub mod Together
 pub mod Told

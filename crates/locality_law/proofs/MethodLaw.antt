@@ -6,9 +6,9 @@ use Rattle.std.specs.Str.{bytes_eq}
 use Rattle.std.proofs.lemmas.Bool.{and_parts, eqb-true}
 use Rattle.cfj_logic.specs.Selections.{Chosen}
 use Rattle.cfj_logic.specs.Sides.{Sides}
-use Rattle.cfj_model.specs.LookUps.{Table, declared}
+use Rattle.cfj_model.specs.LookUps.{declared}
 use Rattle.cfj_model.specs.ProductLines.{IsProject, ProductLine, object}
-use Rattle.cfj_model.specs.Projection.{bare_param, is_present, presence_of, projected, projected_method}
+use Rattle.cfj_model.specs.Projection.{bare_param, is_present, presence_of, projected_method}
 use Rattle.cfj_model.specs.Typing.{classes_named_by, method_uses, param_types}
 use Rattle.cfj_model.specs.declared.class.Class.{Class}
 use Rattle.cfj_model.specs.declared.class.Method.{Method}
@@ -16,13 +16,12 @@ use Rattle.cfj_model.specs.declared.class.Param.{Param}
 use Rattle.cfj_words.specs.Lists.{Has}
 use Rattle.class_table.proofs.Members.{filter_has, find_has, has_left, has_map, has_rest, has_right, name_is}
 use Rattle.unit_facts.specs.Pairs.{method_pairs}
-use Rattle.unit_facts.specs.Facts.{Contents, Head, fact, head_at, head_of, method_at, method_is, signatures_at, signatures_in, signatures_of}
+use Rattle.unit_facts.specs.Facts.{Head, fact, head_at, head_of, method_at, method_is, signatures_at, signatures_in, signatures_of}
 use Rattle.unit_facts.specs.Judgements.{IsSameFor, SameFacts}
 use Rattle.unit_facts.specs.Reach.{InMethodReach, InReach, MethodReaches, Reaches, methods_asked, methods_called_by}
-use Rattle.unit_facts.specs.Units.{is_declaration, of_some, unit_judged, unit_pairs}
+use Rattle.unit_facts.specs.Units.{is_declaration, of_some, unit_judged}
 use Rattle.unit_facts.specs.declared.unit.Key.{Key}
 use Rattle.unit_facts.specs.declared.unit.Key.TheVariants as key
-use Rattle.unit_facts.specs.declared.unit.Unit.{Unit}
 use Rattle.unit_facts.specs.declared.unit.Unit.TheVariants as unit
 use Rattle.locality_law.proofs.Agreement.{IsReached, agree_there}
 use Rattle.locality_law.proofs.Bodies.{Agree}
@@ -30,7 +29,7 @@ use Rattle.locality_law.proofs.BodyNames.{keeps_calls, keeps_names}
 use Rattle.locality_law.proofs.Items.{Each, each_of, map_has}
 use Rattle.locality_law.proofs.Methods.{class_of_method, is_first, judged_named, method_unit, named_same, shown_method}
 use Rattle.locality_law.proofs.SeenChains.{SigSeen}
-use Rattle.locality_law.proofs.SeenVariants.{AreNamedApart, first_present, variant_is, variant_of}
+use Rattle.locality_law.proofs.SeenVariants.{first_present, variant_is, variant_of}
 use Rattle.locality_law.proofs.Told.{any_told, head_told, kept_declared, no_object, reach_back, reach_there, some_told}
 use Rattle.locality_law.proofs.UnitPairs.{class_called, method_pairs_known}
 

@@ -1,16 +1,15 @@
 -- A method of a variant is judged by what is seen of its class and of what it reaches.
-use Rattle.std.proofs.Common.{◌≡◌, ◌⊎◌, inl, inr, ℕ, ◌==◌, Bool, true, false, not, ◌&&◌, ◌||◌, nat_lt, cond, List, [], ◌∷◌, ◌++◌, map, Option, None, Some, is_some, option_map, refl, sym, ◌∙◌, ap, ap₂, subst, arith}
-use Rattle.std.specs.List.{find, filter, flat_map, list_all}
+use Rattle.std.proofs.Common.{◌≡◌, ℕ, ◌==◌, Bool, true, false, not, ◌&&◌, ◌||◌, nat_lt, cond, List, [], ◌∷◌, ◌++◌, map, Option, None, Some, option_map, refl, sym, ◌∙◌, ap, ap₂, arith}
+use Rattle.std.specs.List.{find, flat_map, list_all}
 use Rattle.std.specs.Option.{option_and_then}
-use Rattle.std.specs.Prelude.{⊤}
 use Rattle.std.specs.Str.{bytes_eq}
-use Rattle.std.proofs.lemmas.Bool.{and_parts, and_from, eqb-true, ltb-true, or_left}
+use Rattle.std.proofs.lemmas.Bool.{and_parts, eqb-true, ltb-true, or_left}
 use Rattle.std.proofs.lemmas.List.{map-append}
 use Rattle.std.proofs.lemmas.List.Folds.{list_any-append}
 use Rattle.cfj_logic.specs.Selections.{Chosen}
 use Rattle.cfj_logic.specs.Sides.{Sides}
 use Rattle.cfj_model.specs.Judging.{JudgedExpr, RuleAt, Ruling, are_same, is_no_result, is_overridden_wrongly, judged_at, judged_expr, judged_method, param_type, variable_type}
-use Rattle.cfj_model.specs.LookUps.{Table, ancestors, declared, first_some, is_known, is_subtype, method_called}
+use Rattle.cfj_model.specs.LookUps.{Table, ancestors, declared, first_some, is_known, method_called}
 use Rattle.cfj_model.specs.Members.{Placed, alts_rise, is_again, method_alts_rise, method_name_of, placed, placed_behind}
 use Rattle.cfj_model.specs.Projection.{is_present, presence_of, projected_class, projected_method}
 use Rattle.cfj_model.specs.Typing.{Environment, classes_named_by, param_types, this}
@@ -22,8 +21,8 @@ use Rattle.cfj_model.specs.declared.site.Site.TheVariants as site
 use Rattle.cfj_words.specs.Lists.{Has}
 use Rattle.cfj_words.specs.Names.{is_among}
 use Rattle.class_table.proofs.Without.{declared_name}
-use Rattle.class_table.proofs.Members.{all_has, find_has, has_map, is_name, mapped, name_is, none_find}
-use Rattle.unit_facts.specs.Facts.{method_at, signature_of, signatures_of}
+use Rattle.class_table.proofs.Members.{all_has, find_has, has_map, is_name, name_is, none_find}
+use Rattle.unit_facts.specs.Facts.{method_at, signatures_of}
 use Rattle.unit_facts.specs.Reach.{methods_called_by}
 use Rattle.unit_facts.specs.Units.{is_declaration, placed_method, of_some, unit_judged}
 use Rattle.unit_facts.specs.declared.unit.Unit.TheVariants as unit

@@ -1,19 +1,15 @@
 -- The worked rows on the sample.
-use Rattle.std.proofs.Common.{◌≡◌, ◌⊎◌, ◌↔◌, inl, inr, ℕ, Bool, true, false, List, [], ◌∷◌, ◌++◌, map, codes, Option, None, Some, refl, sym, ◌∙◌, ap, subst}
-use Rattle.std.specs.Prelude.{⊤}
+use Rattle.std.proofs.Common.{◌≡◌, ◌⊎◌, inl, inr, ℕ, List, [], ◌∷◌, ◌++◌, codes, Some, refl, sym, ◌∙◌, ap, subst}
 use Rattle.std.specs.Str.{bytes_eq}
-use Rattle.cfj_model.specs.LookUps.{Table}
 use Rattle.cfj_model.specs.ProductLines.{object}
 use Rattle.cfj_model.specs.Typing.{classes_named_by, method_uses}
-use Rattle.cfj_model.specs.declared.class.Method.{Method}
 use Rattle.cfj_model.specs.declared.expr.Expr.TheVariants as e
 use Rattle.cfj_words.specs.Lists.{Has}
 use Rattle.class_table.proofs.Members.{has_cases, has_none}
 use Rattle.unit_facts.specs.Facts.{Head, head_at, head_of, own_of}
-use Rattle.unit_facts.specs.Reach.{ClassReaches, InReach, IsAbove, IsBefore, IsNotObject, IsReach, MethodReaches, Reaches, keys_of, methods_asked}
-use Rattle.unit_facts.specs.declared.unit.Key.{Key}
+use Rattle.unit_facts.specs.Reach.{ClassReaches, IsAbove, IsBefore, IsNotObject, IsReach, MethodReaches, Reaches, methods_asked}
 use Rattle.unit_facts.specs.declared.unit.Unit.TheVariants as unit
-use Rattle.locality_law.specs.Sample.{class_b, class_c, keys_of_c, keys_of_m, method_m, sample}
+use Rattle.locality_law.specs.Sample.{class_c, keys_of_c, keys_of_m, method_m, sample}
 use Rattle.locality_law.proofs.Bodies.{calls_call, calls_var, names_call, names_var}
 use Rattle.locality_law.proofs.Items.{Each, each_has}
 use Rattle.locality_law.proofs.Keys.{all_reached, class_keys, leads_to, method_keys}

@@ -1,5 +1,5 @@
 -- Chains and look-ups see a class only as others see it: what is seen alike is looked up alike.
-use Rattle.std.proofs.Common.{◌≡◌, ◌⊎◌, inl, inr, ℕ, zero, suc, ◌<◌, ◌≤◌, Bool, true, false, not, ◌||◌, cond, List, [], ◌∷◌, ◌++◌, length, map, Option, None, Some, is_some, option_map, refl, sym, ◌∙◌, ap, ap₂, subst, arith}
+use Rattle.std.proofs.Common.{◌≡◌, ◌⊎◌, inl, inr, ℕ, zero, suc, ◌≤◌, Bool, true, false, not, ◌||◌, cond, List, [], ◌∷◌, ◌++◌, length, map, Option, None, Some, is_some, option_map, refl, sym, ◌∙◌, ap, ap₂, arith}
 use Rattle.std.specs.List.{find, filter, list_any}
 use Rattle.std.specs.Str.{bytes_eq}
 use Rattle.cfj_model.specs.LookUps.{Table, added, all_fields, ancestors, chain, chain_in, declared, field_called, field_of, fields_of, first_some, is_subtype, method_called, method_of, without}

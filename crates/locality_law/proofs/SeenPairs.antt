@@ -1,5 +1,5 @@
 -- The aligned reading of a unit has the unit's pairs, in their order.
-use Rattle.std.proofs.Common.{◌≡◌, ℕ, nat_lt, Bool, true, false, not, ◌&&◌, cond, List, [], ◌∷◌, ◌++◌, map, append-nil, Option, None, Some, is_some, option_map, refl, sym, ◌∙◌, ap, ap₂}
+use Rattle.std.proofs.Common.{◌≡◌, ℕ, nat_lt, Bool, true, false, not, ◌&&◌, cond, List, [], ◌∷◌, ◌++◌, map, append-nil, Option, None, Some, is_some, option_map, refl, sym, ◌∙◌, ap}
 use Rattle.std.specs.List.{flat_map}
 use Rattle.std.specs.Option.{option_and_then}
 use Rattle.std.proofs.lemmas.Grind.{flat_map-append}
@@ -14,7 +14,6 @@ use Rattle.cfj_model.specs.Projection.{is_present, presence_of, projected, proje
 use Rattle.cfj_model.specs.Typing.{Environment}
 use Rattle.cfj_model.specs.declared.class.Class.{Class}
 use Rattle.cfj_model.specs.declared.class.Method.{Method}
-use Rattle.cfj_model.specs.declared.class.Param.{Param}
 use Rattle.cfj_model.specs.declared.expr.Arg.{Arg}
 use Rattle.cfj_model.specs.declared.expr.Expr.{Expr}
 use Rattle.cfj_model.specs.declared.expr.Expr.TheVariants as e
@@ -27,7 +26,7 @@ use Rattle.locality_law.specs.Seen.{Found, SeenArg, found_call, found_new, hande
 use Rattle.unit_facts.proofs.ProjectPairs.{item_pairs, judged_pairs, node_get, node_call, node_new, node_cast, node_var, pairs_append, placed_pairs}
 use Rattle.unit_facts.specs.Pairs.{arg_pairs, ctor_pairs, ctor_param_pairs, field_pairs, method_pairs, node_pairs, pairs_at, param_pairs}
 use Rattle.unit_facts.specs.Facts.{own_of}
-use Rattle.unit_facts.specs.Units.{judged_own, placed_method, of_some, unit_pairs}
+use Rattle.unit_facts.specs.Units.{placed_method, of_some, unit_pairs}
 use Rattle.unit_facts.specs.declared.unit.Unit.{Unit}
 use Rattle.unit_facts.specs.declared.unit.Unit.TheVariants as unit
 use Rattle.locality_law.proofs.UnitPairs.{class_called, class_pairs_known, method_pairs_known, own_pairs}

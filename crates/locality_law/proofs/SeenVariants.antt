@@ -1,11 +1,11 @@
 -- What is seen of a class in a variant is known by its facts.
-use Rattle.std.proofs.Common.{◌≡◌, ◌⊎◌, inl, inr, ℕ, Bool, true, false, cond, List, [], ◌∷◌, map, Option, None, Some, option_map, refl, sym, ◌∙◌, ap, ap₂, subst}
+use Rattle.std.proofs.Common.{◌≡◌, ℕ, Bool, true, false, cond, List, [], ◌∷◌, map, Option, None, Some, option_map, refl, sym, ◌∙◌, ap, ap₂}
 use Rattle.std.specs.List.{find, filter}
 use Rattle.std.specs.Option.{option_and_then}
 use Rattle.std.specs.Str.{bytes_eq}
 use Rattle.cfj_logic.specs.Selections.{Chosen}
 use Rattle.cfj_logic.specs.Sides.{Sides}
-use Rattle.cfj_model.specs.LookUps.{Table, declared, is_called, method_called}
+use Rattle.cfj_model.specs.LookUps.{Table, declared, is_called}
 use Rattle.cfj_model.specs.ProductLines.{ProductLine, are_distinct}
 use Rattle.cfj_model.specs.Projection.{bare_param, is_present, presence_of, present_fields, present_params, projected, projected_class, projected_method}
 use Rattle.cfj_model.specs.Typing.{param_types}
@@ -14,7 +14,7 @@ use Rattle.cfj_model.specs.declared.class.Method.{Method}
 use Rattle.cfj_model.specs.declared.class.Param.{Param}
 use Rattle.class_table.proofs.Without.{declared_name}
 use Rattle.unit_facts.specs.Facts.{Head, Signature, Taken, head_at, head_of, signature_of, signatures_at, signatures_in, signatures_of, taken_of}
-use Rattle.locality_law.proofs.Items.{distinct_alone, find_kept, left_of}
+use Rattle.locality_law.proofs.Items.{distinct_alone, find_kept}
 use Rattle.locality_law.proofs.SeenChains.{ClassSeen, HeadSeen, SigSeen, class_seen, head_seen, sig_seen}
 
 -- class names are distinct

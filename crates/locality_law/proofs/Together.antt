@@ -1,10 +1,10 @@
 -- A line is checked exactly where its units are, joined in their order.
-use Rattle.std.proofs.Common.{◌≡◌, ◌↔◌, ℕ, List, [], ◌∷◌, ◌++◌, map, Option, None, Some, refl, sym, ap, subst}
+use Rattle.std.proofs.Common.{◌≡◌, ◌↔◌, ℕ, List, [], ◌∷◌, ◌++◌, refl, sym, ap, subst}
 use Rattle.std.specs.List.{flat_map}
 use Rattle.cfj_model.specs.Judging.{Pair, pairs_of}
 use Rattle.cfj_model.specs.ProductLines.{IsProject, ProductLine}
 use Rattle.unit_facts.specs.Diagnostics.{AreExact, BreaksIn, IsChecked, IsNever, IsRight, pair_of_entry}
-use Rattle.unit_facts.specs.Judgements.{AreExactByUnits, IsExactFor, IsVerdictFor, no_units, one_unit, verdict_at}
+use Rattle.unit_facts.specs.Judgements.{AreExactByUnits, IsVerdictFor, no_units, one_unit, verdict_at}
 use Rattle.unit_facts.specs.Units.{class_units, unit_pairs, units_of}
 use Rattle.unit_facts.specs.declared.entry.Entry.{Entry}
 use Rattle.unit_facts.specs.declared.entry.Verdict.{Verdict}

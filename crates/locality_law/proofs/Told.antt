@@ -1,5 +1,5 @@
 -- What a project keeps, and what equal facts tell of two projects.
-use Rattle.std.proofs.Common.{◌≡◌, ◌⊎◌, inl, inr, ℕ, Bool, true, false, not, ◌&&◌, nat_le, List, [], ◌∷◌, ◌++◌, length, map, Option, None, Some, option_map, refl, sym, ◌∙◌, ap, subst}
+use Rattle.std.proofs.Common.{◌≡◌, ℕ, true, false, not, ◌&&◌, nat_le, List, [], ◌∷◌, length, map, Option, None, Some, refl, sym, ◌∙◌, ap, subst}
 use Rattle.std.specs.List.{list_all}
 use Rattle.std.specs.Str.{bytes_eq}
 use Rattle.std.proofs.lemmas.Bool.{and_parts, not-true}
@@ -14,9 +14,9 @@ use Rattle.cfj_model.specs.declared.class.Param.{Param}
 use Rattle.cfj_words.specs.Lists.{Has}
 use Rattle.cfj_words.specs.Names.{is_short_identifier}
 use Rattle.class_table.proofs.Without.{declared_has}
-use Rattle.class_table.proofs.Members.{all_has, differs_name, name_differs, name_is, none_find}
-use Rattle.unit_facts.specs.Facts.{Contents, Head, Signature, absent, head_at, head_is, head_of, if_any, if_some, signatures_are, signatures_at, signatures_in}
-use Rattle.unit_facts.specs.Reach.{IsAbove, IsNotObject, MethodReaches, Reaches, signature_types, types_of_fields}
+use Rattle.class_table.proofs.Members.{all_has, none_find}
+use Rattle.unit_facts.specs.Facts.{Contents, Head, Signature, absent, head_at, head_is, if_any, if_some, signatures_at}
+use Rattle.unit_facts.specs.Reach.{IsAbove, Reaches, signature_types}
 
 -- ---- what a project keeps
 

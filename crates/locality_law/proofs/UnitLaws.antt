@@ -1,5 +1,5 @@
 -- The locality law, unit by unit.
-use Rattle.std.proofs.Common.{◌≡◌, ◌⊎◌, inl, inr, ℕ, ◌==◌, Bool, true, false, ◌&&◌, cond, List, [], ◌∷◌, map, Option, None, Some, option_map, refl, sym, ◌∙◌, ap, ap₂, subst}
+use Rattle.std.proofs.Common.{◌≡◌, ◌⊎◌, inl, inr, ℕ, ◌==◌, Bool, true, false, cond, List, [], ◌∷◌, map, Some, option_map, refl, sym, ◌∙◌, ap, ap₂, subst}
 use Rattle.std.specs.List.{find, flat_map}
 use Rattle.std.specs.Option.{option_and_then}
 use Rattle.std.specs.Str.{bytes_eq}
@@ -12,8 +12,8 @@ use Rattle.cfj_model.specs.declared.class.Method.{Method}
 use Rattle.cfj_words.specs.Lists.{Has}
 use Rattle.class_table.proofs.Members.{find_distinct, has_cases, has_none, is_name, unlike}
 use Rattle.unit_facts.specs.Facts.{method_at, own_at, own_of}
-use Rattle.unit_facts.specs.Judgements.{IsLocal, IsSameFor, SameFacts}
-use Rattle.unit_facts.specs.Units.{IsUnit, class_units, is_declaration, placed_method, units_of}
+use Rattle.unit_facts.specs.Judgements.{IsLocal}
+use Rattle.unit_facts.specs.Units.{class_units, is_declaration, placed_method, units_of}
 use Rattle.unit_facts.specs.declared.unit.Key.TheVariants as key
 use Rattle.unit_facts.specs.declared.unit.Unit.{Unit}
 use Rattle.unit_facts.specs.declared.unit.Unit.TheVariants as unit

@@ -1,13 +1,12 @@
 -- The pairs of a unit are known by the unit itself.
-use Rattle.std.proofs.Common.{◌≡◌, ℕ, not, List, [], ◌∷◌, ◌++◌, map, Option, None, Some, option_map, refl, sym, ◌∙◌, ap, ap₂}
+use Rattle.std.proofs.Common.{◌≡◌, ℕ, List, [], ◌∷◌, ◌++◌, map, Option, None, Some, option_map, refl, ◌∙◌, ap}
 use Rattle.std.specs.List.{flat_map}
 use Rattle.std.specs.Option.{option_and_then}
 use Rattle.cfj_model.specs.Coloring.{no_colors}
-use Rattle.cfj_model.specs.Judging.{Pair, RuleAt, extends_itself, judged_ctor, judged_field, judged_method, pair_of}
+use Rattle.cfj_model.specs.Judging.{Pair, judged_ctor, judged_field, judged_method, pair_of}
 use Rattle.cfj_model.specs.LookUps.{Table, declared}
 use Rattle.cfj_model.specs.Members.{Placed, placed}
 use Rattle.cfj_model.specs.declared.class.Class.{Class}
-use Rattle.cfj_model.specs.declared.class.Field.{Field}
 use Rattle.cfj_model.specs.declared.class.Method.{Method}
 use Rattle.cfj_model.specs.declared.site.Rule.TheVariants.{K1, K2}
 use Rattle.cfj_model.specs.declared.site.Site.TheVariants as site

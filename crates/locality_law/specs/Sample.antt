@@ -4,7 +4,7 @@
 --     class A extends Object { @X B f; A(@X B f) { super(); @X this.f = f; } B m(C c) { return c.n(); } }
 --     class B extends A { B(@X B f) { super(@X f); } }
 --     class C extends Missing { C() { super(); } B n() { return new B(); } }
-use Rattle.std.specs.Prelude.{ℕ, List, [], ◌∷◌, codes}
+use Rattle.std.specs.Prelude.{List, [], ◌∷◌, codes}
 use Rattle.cfj_logic.specs.Sides.{Sides}
 use Rattle.cfj_model.specs.Coloring.{no_colors}
 use Rattle.cfj_model.specs.ProductLines.{ProductLine, object}

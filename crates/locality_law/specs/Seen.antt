@@ -1,13 +1,18 @@
--- The aligned reading of a unit: every pair that it has in the line, and whether it breaks in the variant of a selection. What isn't there
--- breaks nothing.
-use Rattle.std.specs.Prelude.{ℕ, Bool, true, false, not, ◌&&◌, List, [], ◌∷◌, ◌++◌, map, flat_map, if◌then◌else◌, Option, None, Some, is_some, option_map}
+-- The aligned reading of a unit: every pair that it has in the line, and whether it breaks in the variant of a
+-- selection. What isn't there breaks nothing.
+use Rattle.std.specs.Prelude.{ℕ, Bool, false, not, ◌&&◌, List, [], ◌∷◌, ◌++◌, filter, map, flat_map, if◌then◌else◌}
+use Rattle.std.specs.Prelude.{Option, is_some, option_map}
 use Rattle.cfj_logic.specs.Selections.{Chosen}
 use Rattle.cfj_logic.specs.Sides.{Sides}
-use Rattle.cfj_model.specs.Judging.{Fit, JudgedExpr, RuleAt, Ruling, are_same, called, environment_of, extends_itself, field_types, fit_of, fits, is_no_result, is_overridden_wrongly, judged_access, judged_at, judged_cast, judged_field, judged_variable, result_type, takes_fields, type_if, types_of, variable_type, with_ruling}
+use Rattle.cfj_model.specs.Judging.{Fit, JudgedExpr, RuleAt, Ruling, are_same, called, environment_of, extends_itself}
+use Rattle.cfj_model.specs.Judging.{field_types, fit_of, fits, is_no_result, is_overridden_wrongly, judged_access}
+use Rattle.cfj_model.specs.Judging.{judged_at, judged_cast, judged_field, judged_variable, result_type, takes_fields}
+use Rattle.cfj_model.specs.Judging.{type_if, types_of, variable_type, with_ruling}
 use Rattle.cfj_model.specs.LookUps.{Table, all_fields, ancestors, declared, first_some, is_known, method_called}
 use Rattle.cfj_model.specs.Members.{Placed, is_again, method_name_of, placed}
 use Rattle.cfj_model.specs.ProductLines.{ProductLine}
-use Rattle.cfj_model.specs.Projection.{is_present, presence_of, present_fields, present_methods, projected, projected_class, projected_method}
+use Rattle.cfj_model.specs.Projection.{is_present, presence_of, present_fields, present_methods, projected}
+use Rattle.cfj_model.specs.Projection.{projected_class, projected_method}
 use Rattle.cfj_model.specs.Typing.{Environment, param_types}
 use Rattle.cfj_model.specs.declared.class.Class.{Class}
 use Rattle.cfj_model.specs.declared.class.Field.{Field}
@@ -41,6 +46,10 @@ where_present here js = if here then js else silent js
 abbrev pub present_nodes : Bool → List (ℕ × List Ruling) → List (ℕ × List Ruling)
 present_nodes here ns = if here then ns else map (λ n. (n.0, silent_rulings n.1)) ns
 
+-- those that break, in their order
+abbrev pub broken : List RuleAt → List RuleAt
+broken js = filter (λ j. j.breaks) js
+
 -- ---- expressions
 
 -- an argument of the line, and whether it is there
@@ -69,9 +78,11 @@ handed_out (a ∷ args) bs = if a.here then first_of bs ∷ handed_out args (res
 -- the rules of the line's arguments, each with the one that the call or `new` round it judges there
 abbrev pub seen_rules : Rule → List SeenArg → List Bool → List (ℕ × List Ruling)
 seen_rules rule [] bs = []
-seen_rules rule (a ∷ args) bs = present_nodes a.here (a.expr.rules ((rule, first_of bs) ∷ [])) ++ seen_rules rule args (rest_of bs)
+seen_rules rule (a ∷ args) bs =
+    present_nodes a.here (a.expr.rules ((rule, first_of bs) ∷ [])) ++ seen_rules rule args (rest_of bs)
 
--- what is found of a call or a `new` by the types of its arguments alone: its type, what is judged at it, and which of them misfit
+-- what is found of a call or a `new` by the types of its arguments alone: its type, what is judged at it, and which
+-- of them misfit
 pub record Found : Type 0 where
   pub type : Option (List ℕ)
   pub own : List Ruling
@@ -82,7 +93,11 @@ found_call p on m types =
     let ts : Option (List (List ℕ)) = types_of types in
     let d : Option Method = called p on.type ts m in
     let f : Fit = fit_of p types ts (option_map (λ (d : Method). param_types d.params) d) in
-    record { type = result_type (fits f) d; own = (E3, is_some on.type && is_some ts && not (is_some d)) ∷ (E4, f.differs) ∷ []; misfits = f.misfits }
+    record {
+      type = result_type (fits f) d;
+      own = (E3, is_some on.type && is_some ts && not (is_some d)) ∷ (E4, f.differs) ∷ [];
+      misfits = f.misfits;
+    }
 
 abbrev pub found_new : Table → List ℕ → List (Option (List ℕ)) → Found
 found_new p c types =
@@ -93,7 +108,10 @@ found_new p c types =
 abbrev pub seen_call : Table → ℕ → JudgedExpr → List ℕ → List SeenArg → JudgedExpr
 seen_call p slot on m args =
     let f : Found = found_call p on m (present_types args) in
-    record { type = f.type; rules = λ more. on.rules [] ++ (slot, f.own ++ more) ∷ seen_rules E5 args (handed_out args f.misfits) }
+    record {
+      type = f.type;
+      rules = λ more. on.rules [] ++ (slot, f.own ++ more) ∷ seen_rules E5 args (handed_out args f.misfits);
+    }
 
 -- rulings, each put in its place among others
 abbrev pub with_rulings : List Ruling → List Ruling → List Ruling
@@ -103,7 +121,8 @@ with_rulings (v ∷ vs) more = with_ruling v (with_rulings vs more)
 abbrev pub seen_new : Table → ℕ → List ℕ → List SeenArg → JudgedExpr
 seen_new p slot c args =
     let f : Found = found_new p c (present_types args) in
-    record { type = f.type; rules = λ more. (slot, (K1, not (is_known p c)) ∷ with_rulings f.own more) ∷ seen_rules E7 args (handed_out args f.misfits) }
+    let own : List Ruling → List Ruling = λ more. (K1, not (is_known p c)) ∷ with_rulings f.own more in
+    record { type = f.type; rules = λ more. (slot, own more) ∷ seen_rules E7 args (handed_out args f.misfits) }
 
 abbrev pub seen_step : Table → Environment → Expr-F (Sides → JudgedExpr) (Sides → SeenArg) → Sides → JudgedExpr
 seen_step p g (Expr-F.Var slot name) around = judged_variable (variable_type g) slot name
@@ -113,7 +132,9 @@ seen_step p g (Expr-F.New slot class args) around = seen_new p slot class (map (
 seen_step p g (Expr-F.Cast slot class on) around = judged_cast p slot class (on around)
 
 abbrev pub seen_arg_step : Chosen → Arg-F (Sides → JudgedExpr) (Sides → SeenArg) → Sides → SeenArg
-seen_arg_step s a around = record { here = is_present s (presence_of around a.colors); expr = a.expr (presence_of around a.colors) }
+seen_arg_step s a around =
+    let within : Sides = presence_of around a.colors in
+    record { here = is_present s within; expr = a.expr within }
 
 -- a body within these colours, over the variant's classes
 abbrev pub seen_expr : Chosen → Table → Environment → Sides → Expr → JudgedExpr
@@ -124,11 +145,13 @@ seen_expr s p g around x = fold-Expr (Sides → JudgedExpr) (Sides → SeenArg) 
 -- a field, with those before it that are there
 abbrev pub seen_field : Chosen → Table → Class → Placed Field → List RuleAt
 seen_field s p k f =
-    where_present (is_present s (presence_of k.colors f.item.colors)) (judged_field p k (record { before = present_fields s k.colors f.before; item = f.item }))
+    where_present (is_present s (presence_of k.colors f.item.colors))
+    (judged_field p k (record { before = present_fields s k.colors f.before; item = f.item }))
 
 abbrev pub seen_ctor_param : Chosen → Table → Class → Param → List RuleAt
 seen_ctor_param s p k c =
-    where_present (is_present s (presence_of k.colors c.colors)) (judged_at (site.CtorParam k.name c.slot) ((K1, not (is_known p c.of)) ∷ []))
+    where_present (is_present s (presence_of k.colors c.colors))
+    (judged_at (site.CtorParam k.name c.slot) ((K1, not (is_known p c.of)) ∷ []))
 
 -- the constructor itself, by what is left of its class
 abbrev pub seen_ctor : Table → Class → List RuleAt
@@ -142,11 +165,13 @@ abbrev pub seen_own : Chosen → Table → Class → List RuleAt
 seen_own s p k =
     where_present (is_present s k.colors)
     (judged_at (site.Class k.name) ((K1, not (is_known p k.parent)) ∷ (K2, extends_itself p k) ∷ [])
-    ++ (flat_map (seen_field s p k) (placed k.fields) ++ (seen_ctor p (projected_class s k) ++ flat_map (seen_ctor_param s p k) k.ctor.params)))
+    ++ (flat_map (seen_field s p k) (placed k.fields)
+    ++ (seen_ctor p (projected_class s k) ++ flat_map (seen_ctor_param s p k) k.ctor.params)))
 
 abbrev pub seen_param : Chosen → Table → Class → Method → Sides → Param → List RuleAt
 seen_param s p k m around a =
-    where_present (is_present s (presence_of around a.colors)) (judged_at (site.Param k.name m.name m.alt a.slot) ((K1, not (is_known p a.of)) ∷ []))
+    where_present (is_present s (presence_of around a.colors))
+    (judged_at (site.Param k.name m.name m.alt a.slot) ((K1, not (is_known p a.of)) ∷ []))
 
 -- a method, with those before it that are there
 abbrev pub seen_method : Chosen → Table → Class → Placed Method → List RuleAt
@@ -169,4 +194,6 @@ seen_method s p k q =
 abbrev pub seen_unit : Chosen → ProductLine → Unit → List RuleAt
 seen_unit s line unit.Model = []
 seen_unit s line (unit.Class c) = of_some (seen_own s (projected s line).classes) (declared line.classes c)
-seen_unit s line (unit.Method c m alt) = of_some (λ k. of_some (seen_method s (projected s line).classes k) (placed_method m alt k)) (declared line.classes c)
+seen_unit s line (unit.Method c m alt) =
+    let p : Table = (projected s line).classes in
+    of_some (λ k. of_some (seen_method s p k) (placed_method m alt k)) (declared line.classes c)

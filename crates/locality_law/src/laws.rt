@@ -2,12 +2,12 @@
 
 ghost use Rattle.std.specs.Prelude.{◌≡◌, ◌↔◌, ℕ, true, List, ◌++◌, flat_map, map, Option};
 ghost use Rattle.cfj_logic.specs.Selections.{Chosen};
-ghost use Rattle.cfj_model.specs.Judging.{Pair, pair_of, pairs_of};
+ghost use Rattle.cfj_model.specs.Judging.{Pair, RuleAt, pair_of, pairs_of};
 ghost use Rattle.cfj_model.specs.ProductLines.{IsProject, ProductLine};
 ghost use Rattle.cfj_model.specs.Projection.{projected};
 ghost use Rattle.cfj_words.specs.Lists.{Has};
 ghost use Rattle.locality_law.specs.Apart.{AreApart};
-ghost use Rattle.locality_law.specs.Seen.{seen_unit};
+ghost use Rattle.locality_law.specs.Seen.{broken, seen_unit};
 ghost use Rattle.unit_facts.specs.Diagnostics.{AreExact, BreaksIn, IsChecked};
 ghost use Rattle.unit_facts.specs.Facts.{HasFacts};
 ghost use Rattle.unit_facts.specs.Judgements.{AreExactByUnits, IsExactFor, IsHonest, IsLocal, IsRightFor, IsSameFor, Judgement};
@@ -70,4 +70,17 @@ pub fn honest_here()
 #[tactic(auto, using(crate::proofs::SeenPairs::seen_pairs))]
 pub fn seen_pairs()
     ensures { (s : Chosen) (line : ProductLine) (u : Unit) → map pair_of (seen_unit s line u) ≡ unit_pairs line.classes u }
+{}
+
+/// A law: what breaks in the aligned reading of a unit of a project is what breaks of the unit in the variant.
+#[tactic(auto, using(crate::proofs::SeenBroken::seen_broken))]
+pub fn seen_broken()
+    ensures { (s : Chosen) (line : ProductLine) → IsProject line → (u : Unit)
+        → broken (seen_unit s line u) ≡ broken (unit_judged (projected s line).classes u) }
+{}
+
+/// A law: at each place of the aligned reading of a unit of a project, the pair breaks in the variant exactly where the reading says so.
+pub fn seen_tells()
+    ensures { (s : Chosen) (line : ProductLine) → IsProject line → (u : Unit) → IsUnit line u → (r : RuleAt) → Has (seen_unit s line u) r
+        → (r.breaks ≡ true) ↔ BreaksIn line (pair_of r) s }
 {}

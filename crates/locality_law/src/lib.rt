@@ -15,6 +15,6 @@ mod rows;
 
 pub use laws::{
     breaks_in_unit, checked_by_units, exact_both, exact_there, honest_here, local, pairs_apart,
-    pairs_by_unit, seen_pairs,
+    pairs_by_unit, seen_broken, seen_pairs, seen_tells,
 };
 pub use rows::{facts_of_the_sample, reach_of_a_class, reach_of_a_method, units_of_the_sample};

@@ -1,5 +1,6 @@
 //! Projects that differ from a sound one by a word, judged twice.
 
+mod alone;
 mod look_ups;
 mod slow;
 mod slow_bodies;

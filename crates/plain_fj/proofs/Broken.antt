@@ -1,9 +1,9 @@
 -- The pairs that break, part by part: lists that grow by what breaks.
 use Rattle.std.proofs.Common.{◌≡◌, ℕ, zero, suc, ◌+◌, ◌<◌, ◌≤◌, Bool, true, false, ◌||◌, cond, List, [], ◌∷◌, ◌++◌, length, map, drop, take, slice_get, slice_index_or, Option, None, Some, is_some, option_map, Bor, refl, sym, ◌∙◌, ap, ap₂, subst}
-use Rattle.std.specs.Prelude.{◌↔◌, if◌then◌else◌, is_ok, Result, Ok, Err, OnOk}
+use Rattle.std.specs.Prelude.{◌↔◌, Result, Ok, Err, OnOk}
 use Rattle.std.specs.List.{list_any, find, filter, flat_map}
 use Rattle.std.specs.Option.{option_copied}
-use Rattle.std.proofs.lemmas.List.{append_assoc, append-nil, map-append}
+use Rattle.std.proofs.lemmas.List.{append-nil, map-append}
 use Rattle.std.proofs.lemmas.List.Elements.{filter-append}
 use Rattle.cfj_model.specs.LookUps.{Table, ancestors, field_called, first_some}
 use Rattle.cfj_model.specs.Judging.{Breaks, RuleAt, JudgedExpr, Pair, Ruling, environment_of, first_breaking, judged, judged_at, judged_class, judged_expr, pair_of}
@@ -16,12 +16,13 @@ use Rattle.cfj_model.specs.declared.class.Method.{Method}
 use Rattle.cfj_model.specs.declared.class.Param.{Param}
 use Rattle.cfj_model.specs.declared.site.Rule.{Rule}
 use Rattle.cfj_model.specs.declared.site.Site.{Site}
-use Rattle.cfj_model.specs.declared.site.Site.TheVariants as site
 use Rattle.class_table.specs.ByName.{seen}
 use Rattle.class_table.proofs.Members.{has_none, has_rest, has_map, has_filter, filter_has}
-use Rattle.plain_fj.specs.Breaking.{Adds, at_slots, breaking, broken, told}
+use Rattle.plain_fj.specs.Breaking.{Adds, AddsAtNodes, breaking, broken, told}
+use Rattle.plain_fj.specs.declared.node_break.NodeBreak.{NodeBreak}
 use Rattle.plain_fj.specs.declared.site_break.Break.{Break}
-use Rattle.plain_fj.proofs.TypeLists.{drop_at, drop_past, take_more}
+use Rattle.plain_fj.proofs.Growing.{grows_all, grows_as, grows_more, grows_then}
+use Rattle.plain_fj.proofs.TypeLists.{drop_at, take_more}
 use Rattle.plain_fj.proofs.Law.{well_typed_project}
 
 -- ---- lists of what is judged
@@ -32,14 +33,13 @@ broken_append js ks =
 
 -- what is added first, and then
 pub adds_then : (a b c : List Break) (js ks : List RuleAt) → Adds a b js → Adds b c ks → Adds a c (js ++ ks)
-adds_then a b c js ks first next =
-    next ∙ ap (λ z. z ++ broken ks) first ∙ append_assoc (map told a) (broken js) (broken ks) ∙ ap (λ z. map told a ++ z) (sym (broken_append js ks))
+adds_then a b c js ks first next = grows_then told broken broken_append a b c js ks first next
 
 pub adds_none : (a : List Break) → Adds a a []
 adds_none a = sym (append-nil (map told a))
 
 pub adds_as : (a b : List Break) (js ks : List RuleAt) → broken js ≡ broken ks → Adds a b js → Adds a b ks
-adds_as a b js ks same adds = adds ∙ ap (λ z. map told a ++ z) same
+adds_as a b js ks same adds = grows_as told broken broken_append a b js ks same adds
 
 -- what is added where there is memory for it
 pub then_added : {X E : Type 0} (a b c : List Break) (js ks : List RuleAt) (r : Result X E) → Adds a b js → OnOk r (Adds b c ks) → OnOk r (Adds a c (js ++ ks))
@@ -64,14 +64,10 @@ pub four_noted : (s : Site) (u v w x : Ruling) (a b c d e : List Break) → Adds
 four_noted s u v w x a b c d e first second third last =
     adds_then a b e (judged_at s (u ∷ [])) (judged_at s (v ∷ (w ∷ (x ∷ [])))) first (three_noted s v w x b c d e second third last)
 
--- a list of breaks
-adds_all : (a b xs : List Break) (js : List RuleAt) → b ≡ a ++ xs → Adds [] xs js → Adds a b js
-adds_all a b xs js appended is = ap (map told) appended ∙ map-append told a xs ∙ ap (λ z. map told a ++ z) is
-
--- a list of breaks behind others
-pub adds_behind : {X E : Type 0} (a b c xs : List Break) (js ks : List RuleAt) (r : Result X E) → c ≡ (if is_ok r then b ++ xs else b) → Adds a b js → Adds [] xs ks → OnOk r (Adds a c (js ++ ks))
-adds_behind a b c xs js ks (Ok x) appended first next = adds_then a b c js ks first (adds_all b c xs ks appended next)
-adds_behind a b c xs js ks (Err e) appended first next = tt
+-- the same, where it breaks as other rules do
+pub then_added_as : {X E : Type 0} (a b c : List Break) (js ks ls : List RuleAt) (r : Result X E) → broken ks ≡ broken ls → Adds a b js → OnOk r (Adds b c ks) → OnOk r (Adds a c (js ++ ls))
+then_added_as a b c js ks ls (Ok x) same first next = adds_then a b c js ls first (adds_as b c ks ls same next)
+then_added_as a b c js ks ls (Err e) same first next = tt
 
 -- ---- one after another
 
@@ -86,15 +82,10 @@ module _ {A : Type 0} (of : A → List RuleAt) (xs : List A) (i : ℕ) (a b : Li
 
   pub added_more : (x : A) (c : List Break) → IsAddedUpTo → drop i xs ≡ x ∷ drop (i + 1) xs → Adds b c (of x)
       → map told c ++ broken (flat_map of (drop (i + 1) xs)) ≡ map told a ++ broken (flat_map of xs)
-  added_more x c so_far at adds =
-      ap (λ z. z ++ broken rest) adds ∙ append_assoc (map told b) (broken (of x)) (broken rest) ∙ ap (λ z. map told b ++ z) (sym (broken_append (of x) rest))
-      ∙ ap (λ z. map told b ++ broken (flat_map of z)) (sym at) ∙ so_far
-    where
-      rest : List RuleAt
-      rest = flat_map of (drop (i + 1) xs)
+  added_more x c so_far at adds = grows_more told broken broken_append of xs i a b x c so_far at adds
 
   pub added_all : IsAddedUpTo → length xs ≤ i → Adds a b (flat_map of xs)
-  added_all so_far le = sym (append-nil (map told b)) ∙ ap (λ z. map told b ++ broken (flat_map of z)) (sym (drop_past xs i le)) ∙ so_far
+  added_all so_far le = grows_all told broken broken_append of xs i a b refl so_far le
 
   pub added_all_read : IsAddedUpTo → (ys : List A) → ys ≡ xs → length ys ≤ i → Adds a b (flat_map of xs)
   added_all_read so_far ys read le = added_all so_far (subst (λ z. length z ≤ i) read le)
@@ -127,14 +118,11 @@ module _ (p : Table) (k : Class) (m : Method) (ps : List Param) (named : ps ≡ 
   abbrev body : List Param → JudgedExpr
   body qs = judged_expr p (record { class = k.name; params = qs }) m.body
 
-  abbrev at : ℕ → Site
-  at n = site.Node k.name m.name m.alt n
-
   pub body_type : (o : Option (List ℕ)) → o ≡ (body ps).type → o ≡ (judged_expr p (environment_of k m) m.body).type
   body_type o typed = typed ∙ ap (λ qs. (body qs).type) named
 
-  pub body_adds : (a b : List Break) → Adds a b (at_slots at ((body ps).rules [])) → Adds a b (at_slots at ((judged_expr p (environment_of k m) m.body).rules []))
-  body_adds a b adds = subst (λ qs. Adds a b (at_slots at ((body qs).rules []))) named adds
+  pub body_adds : (a b : List NodeBreak) → AddsAtNodes a b ((body ps).rules []) → AddsAtNodes a b ((judged_expr p (environment_of k m) m.body).rules [])
+  body_adds a b adds = subst (λ qs. AddsAtNodes a b ((body qs).rules [])) named adds
 
 -- ---- projects
 

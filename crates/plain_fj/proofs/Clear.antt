@@ -5,8 +5,8 @@ use Rattle.std.proofs.lemmas.Bool.{and_parts, and_from}
 use Rattle.std.proofs.lemmas.List.{length-map}
 use Rattle.std.proofs.lemmas.List.Folds.{list_all-append}
 use Rattle.cfj_model.specs.LookUps.{Table, is_known}
-use Rattle.cfj_model.specs.Judging.{Ruling, JudgedExpr, judged_step, judged_arg, types_of, Fit, fits, fit_of, fit_numbers, misfits, no_misfits, argument_rules, type_if, variable_type, accessed, called, result_type, field_types, is_unrelated, rank, with_ruling}
-use Rattle.cfj_model.specs.Typing.{Environment, param_types, classes_named_by, classes_named_step, joined}
+use Rattle.cfj_model.specs.Judging.{Ruling, JudgedExpr, judged_step_with, judged_arg, types_of, Fit, fits, fit_of, fit_numbers, misfits, no_misfits, argument_rules, type_if, accessed, called, result_type, field_types, is_unrelated, rank, with_ruling}
+use Rattle.cfj_model.specs.Typing.{param_types, classes_named_by, classes_named_step, joined}
 use Rattle.cfj_model.specs.declared.class.Method.{Method}
 use Rattle.cfj_model.specs.declared.expr.Arg.{Arg}
 use Rattle.cfj_model.specs.declared.expr.Expr.{Expr}
@@ -160,62 +160,63 @@ fit_length p xs wanted = go (types_of (map (λ (x : JudgedExpr). x.type) xs)) re
 
 -- ---- expressions
 
-module _ (p : Table) (g : Environment) where
+-- over the types that variables have
+module _ (p : Table) (types : List ℕ → Option (List ℕ)) where
   -- No rule of its nodes breaks, nor one that the node round it judges at its root, exactly where it has a type and none of those does.
   abbrev Clear : Expr → Type 0
-  Clear x = (more : List Ruling) → nodes_clear ((judged_of p g x).rules more) ≡ (is_some (type_of p g x) && none_breaks more)
+  Clear x = (more : List Ruling) → nodes_clear ((judged_of p types x).rules more) ≡ (is_some (type_of p types x) && none_breaks more)
 
-  args_clear : (rule : Rule) (ys : List (Proved Clear)) (bs : List Bool) → length bs ≡ length (judged_args p g (args_of Clear ys))
-      → nodes_clear (argument_rules rule (judged_args p g (args_of Clear ys)) bs) ≡ (is_some (arg_types p g (args_of Clear ys)) && not (list_any (λ b. b) bs))
+  args_clear : (rule : Rule) (ys : List (Proved Clear)) (bs : List Bool) → length bs ≡ length (judged_args p types (args_of Clear ys))
+      → nodes_clear (argument_rules rule (judged_args p types (args_of Clear ys)) bs) ≡ (is_some (arg_types p types (args_of Clear ys)) && not (list_any (λ b. b) bs))
   args_clear rule [] [] l = refl
   args_clear rule [] (b ∷ bs) l = absurd (omega (arith, l))
   args_clear rule (y ∷ ys) [] l = absurd (omega (arith, l))
   args_clear rule (y ∷ ys) (b ∷ bs) l =
-      let rest : length bs ≡ length (judged_args p g (args_of Clear ys)) = omega (arith, l) in
-      list_all-append (λ n. none_breaks n.1) ((judged_of p g y.0.expr).rules ((rule, b) ∷ [])) (argument_rules rule (judged_args p g (args_of Clear ys)) bs)
-      ∙ ap (λ a. a && nodes_clear (argument_rules rule (judged_args p g (args_of Clear ys)) bs)) (y.1 ((rule, b) ∷ []))
-      ∙ ap (λ a. (is_some (type_of p g y.0.expr) && (not b && true)) && a) (args_clear rule ys bs rest)
-      ∙ args_bools (is_some (type_of p g y.0.expr)) b (is_some (arg_types p g (args_of Clear ys))) (list_any (λ b. b) bs)
-      ∙ ap (λ a. a && not (b || list_any (λ b. b) bs)) (sym (some_types (type_of p g y.0.expr) (map (λ (x : JudgedExpr). x.type) (judged_args p g (args_of Clear ys)))))
+      let rest : length bs ≡ length (judged_args p types (args_of Clear ys)) = omega (arith, l) in
+      list_all-append (λ n. none_breaks n.1) ((judged_of p types y.0.expr).rules ((rule, b) ∷ [])) (argument_rules rule (judged_args p types (args_of Clear ys)) bs)
+      ∙ ap (λ a. a && nodes_clear (argument_rules rule (judged_args p types (args_of Clear ys)) bs)) (y.1 ((rule, b) ∷ []))
+      ∙ ap (λ a. (is_some (type_of p types y.0.expr) && (not b && true)) && a) (args_clear rule ys bs rest)
+      ∙ args_bools (is_some (type_of p types y.0.expr)) b (is_some (arg_types p types (args_of Clear ys))) (list_any (λ b. b) bs)
+      ∙ ap (λ a. a && not (b || list_any (λ b. b) bs)) (sym (some_types (type_of p types y.0.expr) (map (λ (x : JudgedExpr). x.type) (judged_args p types (args_of Clear ys)))))
 
   clear_var : (slot : ℕ) (x : List ℕ) → Clear (e.Var slot x)
   clear_var slot x more =
-      ap (λ (j : JudgedExpr). nodes_clear (j.rules more)) (fold_var JudgedExpr JudgedExpr (judged_step p g) judged_arg slot x)
-      ∙ var_bools (is_some (variable_type g x)) (none_breaks more)
-      ∙ ap (λ o. is_some o && none_breaks more) (sym (type_var p g slot x))
+      ap (λ (j : JudgedExpr). nodes_clear (j.rules more)) (fold_var JudgedExpr JudgedExpr (judged_step_with p types) judged_arg slot x)
+      ∙ var_bools (is_some (types x)) (none_breaks more)
+      ∙ ap (λ o. is_some o && none_breaks more) (sym (type_var p types slot x))
 
   clear_get : (slot : ℕ) (on : Expr) → Clear on → (f : List ℕ) → Clear (e.Get slot on f)
   clear_get slot on ih f more =
-      ap (λ (j : JudgedExpr). nodes_clear (j.rules more)) (fold_get JudgedExpr JudgedExpr (judged_step p g) judged_arg slot on f)
-      ∙ list_all-append (λ n. none_breaks n.1) ((judged_of p g on).rules []) ((slot, (E2, is_some t && not (is_some d)) ∷ more) ∷ [])
+      ap (λ (j : JudgedExpr). nodes_clear (j.rules more)) (fold_get JudgedExpr JudgedExpr (judged_step_with p types) judged_arg slot on f)
+      ∙ list_all-append (λ n. none_breaks n.1) ((judged_of p types on).rules []) ((slot, (E2, is_some t && not (is_some d)) ∷ more) ∷ [])
       ∙ ap (λ a. a && ((not (is_some t && not (is_some d)) && none_breaks more) && true)) (ih [])
       ∙ get_bools (is_some t) (is_some d) (none_breaks more) (some_accessed p t f)
-      ∙ ap (λ o. is_some o && none_breaks more) (sym (type_get p g slot on f))
+      ∙ ap (λ o. is_some o && none_breaks more) (sym (type_get p types slot on f))
     where
       t : Option (List ℕ)
-      t = type_of p g on
+      t = type_of p types on
 
       d : Option (List ℕ)
       d = accessed p t f
 
   clear_call : (slot : ℕ) (on : Expr) → Clear on → (m : List ℕ) (ys : List (Proved Clear)) → Clear (e.Call slot on m (args_of Clear ys))
   clear_call slot on ih m ys more =
-      ap (λ (j : JudgedExpr). nodes_clear (j.rules more)) (fold_call JudgedExpr JudgedExpr (judged_step p g) judged_arg slot on m (args_of Clear ys))
-      ∙ list_all-append (λ n. none_breaks n.1) ((judged_of p g on).rules []) ((slot, (E3, is_some t && is_some ts && not (is_some d)) ∷ ((E4, f.differs) ∷ more)) ∷ argument_rules E5 xs f.misfits)
+      ap (λ (j : JudgedExpr). nodes_clear (j.rules more)) (fold_call JudgedExpr JudgedExpr (judged_step_with p types) judged_arg slot on m (args_of Clear ys))
+      ∙ list_all-append (λ n. none_breaks n.1) ((judged_of p types on).rules []) ((slot, (E3, is_some t && is_some ts && not (is_some d)) ∷ ((E4, f.differs) ∷ more)) ∷ argument_rules E5 xs f.misfits)
       ∙ ap (λ a. a && (here && nodes_clear (argument_rules E5 xs f.misfits))) (ih [])
       ∙ ap (λ a. (is_some t && true) && (here && a)) (args_clear E5 ys f.misfits (fit_length p xs (option_map (λ (d : Method). param_types d.params) d)))
       ∙ call_bools (is_some t) (is_some ts) (is_some d) f.differs (none_breaks more) (list_any (λ b. b) f.misfits) (some_called p t ts m)
       ∙ ap (λ b. b && none_breaks more) (sym (some_result (fits f) d))
-      ∙ ap (λ o. is_some o && none_breaks more) (sym (type_call p g slot on m (args_of Clear ys)))
+      ∙ ap (λ o. is_some o && none_breaks more) (sym (type_call p types slot on m (args_of Clear ys)))
     where
       t : Option (List ℕ)
-      t = type_of p g on
+      t = type_of p types on
 
       xs : List JudgedExpr
-      xs = judged_args p g (args_of Clear ys)
+      xs = judged_args p types (args_of Clear ys)
 
       ts : Option (List (List ℕ))
-      ts = arg_types p g (args_of Clear ys)
+      ts = arg_types p types (args_of Clear ys)
 
       d : Option Method
       d = called p t ts m
@@ -228,49 +229,49 @@ module _ (p : Table) (g : Environment) where
 
   clear_new : (slot : ℕ) (c : List ℕ) (ys : List (Proved Clear)) → Clear (e.New slot c (args_of Clear ys))
   clear_new slot c ys more =
-      ap (λ (j : JudgedExpr). nodes_clear (j.rules more)) (fold_new JudgedExpr JudgedExpr (judged_step p g) judged_arg slot c (args_of Clear ys))
+      ap (λ (j : JudgedExpr). nodes_clear (j.rules more)) (fold_new JudgedExpr JudgedExpr (judged_step_with p types) judged_arg slot c (args_of Clear ys))
       ∙ ap (λ a. (not (not (is_known p c)) && a) && nodes_clear (argument_rules E7 xs f.misfits)) (none_with_ruling (E6, f.differs) more)
       ∙ ap (λ a. (not (not (is_known p c)) && (not f.differs && none_breaks more)) && a) (args_clear E7 ys f.misfits (fit_length p xs (field_types p c)))
       ∙ new_bools (is_some ts) (is_known p c) f.differs (none_breaks more) (list_any (λ b. b) f.misfits)
       ∙ ap (λ b. b && none_breaks more) (sym (some_type (is_some ts && is_known p c && fits f) c))
-      ∙ ap (λ o. is_some o && none_breaks more) (sym (type_new p g slot c (args_of Clear ys)))
+      ∙ ap (λ o. is_some o && none_breaks more) (sym (type_new p types slot c (args_of Clear ys)))
     where
       xs : List JudgedExpr
-      xs = judged_args p g (args_of Clear ys)
+      xs = judged_args p types (args_of Clear ys)
 
       ts : Option (List (List ℕ))
-      ts = arg_types p g (args_of Clear ys)
+      ts = arg_types p types (args_of Clear ys)
 
       f : Fit
       f = fit_of p xs ts (field_types p c)
 
   clear_cast : (slot : ℕ) (c : List ℕ) (on : Expr) → Clear on → Clear (e.Cast slot c on)
   clear_cast slot c on ih more =
-      ap (λ (j : JudgedExpr). nodes_clear (j.rules more)) (fold_cast JudgedExpr JudgedExpr (judged_step p g) judged_arg slot c on)
-      ∙ ap (λ a. (not (not (is_known p c)) && a) && nodes_clear ((judged_of p g on).rules [])) (none_with_ruling (E8, is_unrelated p t c) more)
+      ap (λ (j : JudgedExpr). nodes_clear (j.rules more)) (fold_cast JudgedExpr JudgedExpr (judged_step_with p types) judged_arg slot c on)
+      ∙ ap (λ a. (not (not (is_known p c)) && a) && nodes_clear ((judged_of p types on).rules [])) (none_with_ruling (E8, is_unrelated p t c) more)
       ∙ ap (λ a. (not (not (is_known p c)) && (not (is_unrelated p t c) && none_breaks more)) && a) (ih [])
       ∙ cast_bools (is_some t) (is_known p c) (is_unrelated p t c) (none_breaks more)
       ∙ ap (λ b. b && none_breaks more) (sym (some_type (is_some t && is_known p c && not (is_unrelated p t c)) c))
-      ∙ ap (λ o. is_some o && none_breaks more) (sym (type_cast p g slot c on))
+      ∙ ap (λ o. is_some o && none_breaks more) (sym (type_cast p types slot c on))
     where
       t : Option (List ℕ)
-      t = type_of p g on
+      t = type_of p types on
 
-  pub clear : (x : Expr) (more : List Ruling) → nodes_clear ((judged_of p g x).rules more) ≡ (is_some (type_of p g x) && none_breaks more)
+  pub clear : (x : Expr) (more : List Ruling) → nodes_clear ((judged_of p types x).rules more) ≡ (is_some (type_of p types x) && none_breaks more)
   clear = by_cases Clear (record { var_case = clear_var; get_case = clear_get; call_case = clear_call; new_case = clear_new; cast_case = clear_cast })
 
   -- ---- names
 
   -- the classes that it names are known where it has a type
   abbrev Named : Expr → Type 0
-  Named x = is_some (type_of p g x) ≡ true → list_all (is_known p) (classes_named_by x) ≡ true
+  Named x = is_some (type_of p types x) ≡ true → list_all (is_known p) (classes_named_by x) ≡ true
 
-  args_named : (ys : List (Proved Named)) → is_some (arg_types p g (args_of Named ys)) ≡ true
+  args_named : (ys : List (Proved Named)) → is_some (arg_types p types (args_of Named ys)) ≡ true
       → list_all (is_known p) (joined (map (λ (a : Arg). classes_named_by a.expr) (args_of Named ys))) ≡ true
   args_named [] h = refl
   args_named (y ∷ ys) h =
-      let parts = and_parts (is_some (type_of p g y.0.expr)) (is_some (arg_types p g (args_of Named ys)))
-      (sym (some_types (type_of p g y.0.expr) (map (λ (x : JudgedExpr). x.type) (judged_args p g (args_of Named ys)))) ∙ h) in
+      let parts = and_parts (is_some (type_of p types y.0.expr)) (is_some (arg_types p types (args_of Named ys)))
+      (sym (some_types (type_of p types y.0.expr) (map (λ (x : JudgedExpr). x.type) (judged_args p types (args_of Named ys)))) ∙ h) in
       list_all-append (is_known p) (classes_named_by y.0.expr) (joined (map (λ (a : Arg). classes_named_by a.expr) (args_of Named ys)))
       ∙ and_from (list_all (is_known p) (classes_named_by y.0.expr)) (list_all (is_known p) (joined (map (λ (a : Arg). classes_named_by a.expr) (args_of Named ys))))
       (y.1 parts.0) (args_named ys parts.1)
@@ -281,15 +282,15 @@ module _ (p : Table) (g : Environment) where
   named_get : (slot : ℕ) (on : Expr) → Named on → (f : List ℕ) → Named (e.Get slot on f)
   named_get slot on ih f h =
       ap (list_all (is_known p)) (fold_get (List (List ℕ)) (List (List ℕ)) classes_named_step (λ a. a.expr) slot on f)
-      ∙ ih (some_accessed p (type_of p g on) f (sym (ap is_some (type_get p g slot on f)) ∙ h))
+      ∙ ih (some_accessed p (type_of p types on) f (sym (ap is_some (type_get p types slot on f)) ∙ h))
 
   named_call : (slot : ℕ) (on : Expr) → Named on → (m : List ℕ) (ys : List (Proved Named)) → Named (e.Call slot on m (args_of Named ys))
   named_call slot on ih m ys h =
-      let ts : Option (List (List ℕ)) = arg_types p g (args_of Named ys) in
-      let d : Option Method = called p (type_of p g on) ts m in
-      let ok : Bool = fits (fit_of p (judged_args p g (args_of Named ys)) ts (option_map (λ (d : Method). param_types d.params) d)) in
-      let there = (and_parts (is_some d) ok (sym (some_result ok d) ∙ sym (ap is_some (type_call p g slot on m (args_of Named ys))) ∙ h)).0 in
-      let parts = some_called p (type_of p g on) ts m there in
+      let ts : Option (List (List ℕ)) = arg_types p types (args_of Named ys) in
+      let d : Option Method = called p (type_of p types on) ts m in
+      let ok : Bool = fits (fit_of p (judged_args p types (args_of Named ys)) ts (option_map (λ (d : Method). param_types d.params) d)) in
+      let there = (and_parts (is_some d) ok (sym (some_result ok d) ∙ sym (ap is_some (type_call p types slot on m (args_of Named ys))) ∙ h)).0 in
+      let parts = some_called p (type_of p types on) ts m there in
       ap (list_all (is_known p)) (fold_call (List (List ℕ)) (List (List ℕ)) classes_named_step (λ a. a.expr) slot on m (args_of Named ys))
       ∙ list_all-append (is_known p) (classes_named_by on) (joined (map (λ (a : Arg). classes_named_by a.expr) (args_of Named ys)))
       ∙ and_from (list_all (is_known p) (classes_named_by on)) (list_all (is_known p) (joined (map (λ (a : Arg). classes_named_by a.expr) (args_of Named ys))))
@@ -304,19 +305,19 @@ module _ (p : Table) (g : Environment) where
 
   named_new : (slot : ℕ) (c : List ℕ) (ys : List (Proved Named)) → Named (e.New slot c (args_of Named ys))
   named_new slot c ys h =
-      let ts : Option (List (List ℕ)) = arg_types p g (args_of Named ys) in
-      let ok : Bool = fits (fit_of p (judged_args p g (args_of Named ys)) ts (field_types p c)) in
-      let parts = three (is_some ts) (is_known p c) ok (sym (some_type (is_some ts && is_known p c && ok) c) ∙ sym (ap is_some (type_new p g slot c (args_of Named ys))) ∙ h) in
+      let ts : Option (List (List ℕ)) = arg_types p types (args_of Named ys) in
+      let ok : Bool = fits (fit_of p (judged_args p types (args_of Named ys)) ts (field_types p c)) in
+      let parts = three (is_some ts) (is_known p c) ok (sym (some_type (is_some ts && is_known p c && ok) c) ∙ sym (ap is_some (type_new p types slot c (args_of Named ys))) ∙ h) in
       ap (list_all (is_known p)) (fold_new (List (List ℕ)) (List (List ℕ)) classes_named_step (λ a. a.expr) slot c (args_of Named ys))
       ∙ and_from (is_known p c) (list_all (is_known p) (joined (map (λ (a : Arg). classes_named_by a.expr) (args_of Named ys)))) parts.1 (args_named ys parts.0)
 
   named_cast : (slot : ℕ) (c : List ℕ) (on : Expr) → Named on → Named (e.Cast slot c on)
   named_cast slot c on ih h =
-      let t : Option (List ℕ) = type_of p g on in
+      let t : Option (List ℕ) = type_of p types on in
       let parts = three (is_some t) (is_known p c) (not (is_unrelated p t c))
-      (sym (some_type (is_some t && is_known p c && not (is_unrelated p t c)) c) ∙ sym (ap is_some (type_cast p g slot c on)) ∙ h) in
+      (sym (some_type (is_some t && is_known p c && not (is_unrelated p t c)) c) ∙ sym (ap is_some (type_cast p types slot c on)) ∙ h) in
       ap (list_all (is_known p)) (fold_cast (List (List ℕ)) (List (List ℕ)) classes_named_step (λ a. a.expr) slot c on)
       ∙ and_from (is_known p c) (list_all (is_known p) (classes_named_by on)) parts.1 (ih parts.0)
 
-  pub names_known : (x : Expr) → is_some (type_of p g x) ≡ true → list_all (is_known p) (classes_named_by x) ≡ true
+  pub names_known : (x : Expr) → is_some (type_of p types x) ≡ true → list_all (is_known p) (classes_named_by x) ≡ true
   names_known = by_cases Named (record { var_case = named_var; get_case = named_get; call_case = named_call; new_case = named_new; cast_case = named_cast })

@@ -8,8 +8,8 @@ use Rattle.cfj_model.specs.declared.expr.Arg.{Arg}
 use Rattle.cfj_model.specs.declared.expr.Expr.{Expr}
 use Rattle.plain_fj.specs.Found.{AreJudged, IsJudged, judged_all, judged_in, names, nodes_in}
 use Rattle.plain_fj.specs.declared.body.Body.{Body}
-use Rattle.plain_fj.specs.declared.site_break.Break.{Break}
-use Rattle.plain_fj.proofs.Broken.{IsAddedUpTo, added_all}
+use Rattle.plain_fj.specs.declared.node_break.NodeBreak.{NodeBreak}
+use Rattle.plain_fj.proofs.AddedNodes.{IsAddedUpTo, added_all}
 use Rattle.plain_fj.proofs.TypeLists.{names_push, take_all, take_more}
 
 -- what follows of a value, where there is one
@@ -61,7 +61,7 @@ typed_nothing = refl
 
 module _ (b : Body) where
   -- what is found of an expression is found of the same one
-  pub judged_as : (x y : Expr) (r : Option (Bor (List ℕ))) (a c : List Break) → x ≡ y → IsJudged b y r a c → IsJudged b x r a c
+  pub judged_as : (x y : Expr) (r : Option (Bor (List ℕ))) (a c : List NodeBreak) → x ≡ y → IsJudged b y r a c → IsJudged b x r a c
   judged_as x y r a c same found = subst (λ z. IsJudged b z r a c) (sym same) found
 
   pub types : List Arg → List (Option (List ℕ))
@@ -80,7 +80,7 @@ module _ (b : Body) where
   unfolding types
   types_begin args ns none = ap names none ∙ sym typed_nothing
 
-  module _ (args : List Arg) (i : ℕ) (x : Arg) (r : Option (Bor (List ℕ))) (ns : List (Bor (List ℕ))) (before after : List Break) (lt : i < length args) (at : x ≡ slice_index_or args i x)
+  module _ (args : List Arg) (i : ℕ) (x : Arg) (r : Option (Bor (List ℕ))) (ns : List (Bor (List ℕ))) (before after : List NodeBreak) (lt : i < length args) (at : x ≡ slice_index_or args i x)
       (j : IsJudged b x.expr r before after) (so_far : AreTypesUpTo args i ns) where
     next_types : typed_of (types (take (i + 1) args)) ≡ names ns ++ typed_of (option_copied r ∷ [])
     next_types =
@@ -94,7 +94,7 @@ module _ (b : Body) where
     pub types_same : r ≡ None → AreTypesUpTo args (i + 1) ns
     types_same is = sym (append-nil (names ns)) ∙ ap (λ z. names ns ++ z) (sym typed_none) ∙ ap (λ o. names ns ++ typed_of (o ∷ [])) (sym (ap option_copied is)) ∙ sym next_types
 
-  module _ (args : List Arg) (i : ℕ) (ts : Vec (Bor (List ℕ)) Global) (before after : List Break) (end : i ≡ length args) (so_far : AreTypesUpTo args i ts.items)
+  module _ (args : List Arg) (i : ℕ) (ts : Vec (Bor (List ℕ)) Global) (before after : List NodeBreak) (end : i ≡ length args) (so_far : AreTypesUpTo args i ts.items)
       (added : IsAddedUpTo (λ (a : Arg). nodes_in b a.expr) args i before after) where
     abbrev Found : Type 0
     Found = Option (Vec (Bor (List ℕ)) Global)

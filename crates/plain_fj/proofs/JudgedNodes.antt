@@ -1,94 +1,79 @@
 -- What is found of a variable, a field access or a cast and what is added, by what is found of its parts.
-use Rattle.std.proofs.Common.{◌≡◌, ℕ, Bool, true, false, not, ◌&&◌, ◌||◌, cond, List, [], ◌++◌, Option, None, Some, is_some, option_map, Bor, refl, sym, ◌∙◌, ap}
-use Rattle.std.specs.List.{find}
+use Rattle.std.proofs.Common.{◌≡◌, ℕ, Bool, true, false, not, ◌&&◌, ◌||◌, List, [], ◌++◌, Option, None, Some, is_some, option_map, Bor, refl, sym, ◌∙◌, ap}
 use Rattle.std.specs.Option.{option_copied}
-use Rattle.std.specs.Str.{bytes_eq}
 use Rattle.std.proofs.lemmas.List.{append-nil}
 use Rattle.cfj_model.specs.LookUps.{Table, field_of, is_known, is_subtype}
-use Rattle.cfj_model.specs.Judging.{RuleAt, variable_type, param_type, accessed, is_unrelated, type_if}
-use Rattle.cfj_model.specs.Typing.{Environment, this}
+use Rattle.cfj_model.specs.Judging.{Ruling, accessed, is_unrelated, type_if}
 use Rattle.cfj_model.specs.declared.class.Field.{Field}
-use Rattle.cfj_model.specs.declared.class.Param.{Param}
 use Rattle.cfj_model.specs.declared.expr.Expr.{Expr}
 use Rattle.cfj_model.specs.declared.expr.Expr.TheVariants as e
 use Rattle.cfj_model.specs.declared.site.Rule.TheVariants.{K1, E1, E2, E8}
 use Rattle.class_table.proofs.Members.{not_true}
-use Rattle.plain_fj.specs.Breaking.{Adds, broken}
-use Rattle.plain_fj.specs.Found.{IsJudged, IsNameJudged, at_nodes, environment, nodes_in}
+use Rattle.plain_fj.specs.Breaking.{AddsAtNodes, broken_nodes}
+use Rattle.plain_fj.specs.Found.{IsJudged, IsNameJudged, nodes_in, types_in}
 use Rattle.plain_fj.specs.declared.body.Body.{Body}
-use Rattle.plain_fj.specs.declared.site_break.Break.{Break}
-use Rattle.plain_fj.proofs.Broken.{adds_as, adds_none, adds_then, broken_append}
-use Rattle.plain_fj.proofs.BrokenNodes.{cast_pairs, get_pairs, one, pairs, type_in, typed_quiet, var_pairs}
+use Rattle.plain_fj.specs.declared.node_break.NodeBreak.{NodeBreak}
+use Rattle.plain_fj.proofs.AddedNodes.{adds_as, adds_none, adds_then, nodes_append}
+use Rattle.plain_fj.proofs.BrokenNodes.{cast_pairs, get_pairs, one, type_in, typed_quiet, var_pairs}
 use Rattle.plain_fj.proofs.Typed.{cast_type, type_cast, type_get, type_var}
 
 -- ---- parts that are added
 
-pub two_adds : (a c e : List Break) (js ks ws : List RuleAt) → Adds a c js → Adds c e ks → broken ws ≡ broken js ++ broken ks → Adds a e ws
-two_adds a c e js ks ws first next same = adds_as a e (js ++ ks) ws (broken_append js ks ∙ sym same) (adds_then a c e js ks first next)
+pub two_adds : (a c e : List NodeBreak) (js ks ws : List (ℕ × List Ruling)) → AddsAtNodes a c js → AddsAtNodes c e ks → broken_nodes ws ≡ broken_nodes js ++ broken_nodes ks → AddsAtNodes a e ws
+two_adds a c e js ks ws first next same = adds_as a e (js ++ ks) ws (nodes_append js ks ∙ sym same) (adds_then a c e js ks first next)
 
-pub three_adds : (a m c e : List Break) (js ks ls ws : List RuleAt) → Adds a m js → Adds m c ks → Adds c e ls → broken ws ≡ broken js ++ (broken ks ++ broken ls) → Adds a e ws
+pub three_adds : (a m c e : List NodeBreak) (js ks ls ws : List (ℕ × List Ruling)) → AddsAtNodes a m js → AddsAtNodes m c ks → AddsAtNodes c e ls → broken_nodes ws ≡ broken_nodes js ++ (broken_nodes ks ++ broken_nodes ls) → AddsAtNodes a e ws
 three_adds a m c e js ks ls ws first second third same =
-    two_adds a m e js (ks ++ ls) ws first (adds_then m c e ks ls second third) (same ∙ ap (λ z. broken js ++ z) (sym (broken_append ks ls)))
+    two_adds a m e js (ks ++ ls) ws first (adds_then m c e ks ls second third) (same ∙ ap (λ z. broken_nodes js ++ z) (sym (nodes_append ks ls)))
 
 module _ (b : Body) where
   abbrev p : Table
   p = b.table.now
 
-  abbrev g : Environment
-  g = environment b
+  abbrev types : List ℕ → Option (List ℕ)
+  types = types_in b.scope
 
-  pub untyped : (x : Expr) (r : Option (Bor (List ℕ))) (a c : List Break) → r ≡ None → IsJudged b x r a c → type_in b x ≡ None
+  pub untyped : (x : Expr) (r : Option (Bor (List ℕ))) (a c : List NodeBreak) → r ≡ None → IsJudged b x r a c → type_in b x ≡ None
   untyped x r a c is j = sym j.typed ∙ ap option_copied is
 
-  pub has_type : (x : Expr) (r : Option (Bor (List ℕ))) (t : Bor (List ℕ)) (a c : List Break) → r ≡ Some t → IsJudged b x r a c → type_in b x ≡ Some t.now
+  pub has_type : (x : Expr) (r : Option (Bor (List ℕ))) (t : Bor (List ℕ)) (a c : List NodeBreak) → r ≡ Some t → IsJudged b x r a c → type_in b x ≡ Some t.now
   has_type x r t a c is j = sym j.typed ∙ ap option_copied is
 
   -- ---- variables
 
-  pub var_this : (slot : ℕ) (x : List ℕ) (a : List Break) → bytes_eq x this ≡ true → IsJudged b (e.Var slot x) (Some b.class) a a
-  var_this slot x a is =
-      record { typed = sym typed; adds = adds_as a a [] (nodes_in b (e.Var slot x)) (sym (typed_quiet b (e.Var slot x) b.class.now typed)) (adds_none a) }
-    where
-      typed : type_in b (e.Var slot x) ≡ Some b.class.now
-      typed = type_var p g slot x ∙ ap (λ c. cond c (Some g.class) (param_type g.params x)) is
-
-  other_variable : (x : List ℕ) → bytes_eq x this ≡ false → variable_type g x ≡ param_type g.params x
-  other_variable x other = ap (λ c. cond c (Some g.class) (param_type g.params x)) other
-
-  pub var_param : (slot : ℕ) (x : List ℕ) (a : List Break) (y : Param) (t : Bor (List ℕ)) → bytes_eq x this ≡ false → find (λ q. bytes_eq q.name x) g.params ≡ Some y → t.now ≡ y.of
-      → IsJudged b (e.Var slot x) (Some t) a a
-  var_param slot x a y t other found is =
+  pub var_typed : (slot : ℕ) (x : List ℕ) (a : List NodeBreak) (r : Option (Bor (List ℕ))) (t : Bor (List ℕ)) → option_copied r ≡ types x → r ≡ Some t → IsJudged b (e.Var slot x) (Some t) a a
+  var_typed slot x a r t is some =
       record { typed = sym typed; adds = adds_as a a [] (nodes_in b (e.Var slot x)) (sym (typed_quiet b (e.Var slot x) t.now typed)) (adds_none a) }
     where
       typed : type_in b (e.Var slot x) ≡ Some t.now
-      typed = type_var p g slot x ∙ other_variable x other ∙ ap (option_map (λ (q : Param). q.of)) found ∙ ap Some (sym is)
+      typed = type_var p types slot x ∙ sym is ∙ ap option_copied some
 
-  pub var_unknown : (slot : ℕ) (x : List ℕ) (a c : List Break) → bytes_eq x this ≡ false → find (λ q. bytes_eq q.name x) g.params ≡ None → Adds a c (at_nodes b (one b slot E1 true))
+  pub var_unknown : (slot : ℕ) (x : List ℕ) (a c : List NodeBreak) (r : Option (Bor (List ℕ))) → option_copied r ≡ types x → r ≡ None → AddsAtNodes a c (one slot E1 true)
       → IsJudged b (e.Var slot x) None a c
-  var_unknown slot x a c other none adds =
+  var_unknown slot x a c r is none adds =
       record {
-        typed = sym (type_var p g slot x ∙ untyped);
-        adds = adds_as a c (at_nodes b (one b slot E1 true)) (nodes_in b (e.Var slot x)) (sym (var_pairs b slot x ∙ ap (λ t. pairs b (one b slot E1 (not (is_some t)))) untyped)) adds;
+        typed = sym (type_var p types slot x ∙ untyped);
+        adds = adds_as a c (one slot E1 true) (nodes_in b (e.Var slot x)) (sym (var_pairs b slot x ∙ ap (λ t. broken_nodes (one slot E1 (not (is_some t)))) untyped)) adds;
       }
     where
-      untyped : variable_type g x ≡ None
-      untyped = other_variable x other ∙ ap (option_map (λ (q : Param). q.of)) none
+      untyped : types x ≡ None
+      untyped = sym is ∙ ap option_copied none
 
   -- ---- field accesses
 
   get_own : (slot : ℕ) (on : Expr) (f : List ℕ) (t : Option (List ℕ)) → type_in b on ≡ t
-      → broken (nodes_in b (e.Get slot on f)) ≡ broken (nodes_in b on) ++ pairs b (one b slot E2 (is_some t && not (is_some (accessed p t f))))
-  get_own slot on f t is = get_pairs b slot on f ∙ ap (λ t. broken (nodes_in b on) ++ pairs b (one b slot E2 (is_some t && not (is_some (accessed p t f))))) is
+      → broken_nodes (nodes_in b (e.Get slot on f)) ≡ broken_nodes (nodes_in b on) ++ broken_nodes (one slot E2 (is_some t && not (is_some (accessed p t f))))
+  get_own slot on f t is = get_pairs b slot on f ∙ ap (λ t. broken_nodes (nodes_in b on) ++ broken_nodes (one slot E2 (is_some t && not (is_some (accessed p t f))))) is
 
-  pub get_stops : (slot : ℕ) (on : Expr) (f : List ℕ) (r : Option (Bor (List ℕ))) (a c : List Break) → r ≡ None → IsJudged b on r a c → IsJudged b (e.Get slot on f) None a c
+  pub get_stops : (slot : ℕ) (on : Expr) (f : List ℕ) (r : Option (Bor (List ℕ))) (a c : List NodeBreak) → r ≡ None → IsJudged b on r a c → IsJudged b (e.Get slot on f) None a c
   get_stops slot on f r a c none j =
       let q = untyped on r a c none j in
       record {
-        typed = sym (type_get p g slot on f ∙ ap (λ t. accessed p t f) q);
-        adds = adds_as a c (nodes_in b on) (nodes_in b (e.Get slot on f)) (sym (get_own slot on f None q ∙ append-nil (broken (nodes_in b on)))) j.adds;
+        typed = sym (type_get p types slot on f ∙ ap (λ t. accessed p t f) q);
+        adds = adds_as a c (nodes_in b on) (nodes_in b (e.Get slot on f)) (sym (get_own slot on f None q ∙ append-nil (broken_nodes (nodes_in b on)))) j.adds;
       }
 
-  pub get_typed : (slot : ℕ) (on : Expr) (f : List ℕ) (r : Option (Bor (List ℕ))) (k : Bor (List ℕ)) (d : Field) (t : Bor (List ℕ)) (a c : List Break) → r ≡ Some k → field_of p k.now f ≡ Some d
+  pub get_typed : (slot : ℕ) (on : Expr) (f : List ℕ) (r : Option (Bor (List ℕ))) (k : Bor (List ℕ)) (d : Field) (t : Bor (List ℕ)) (a c : List NodeBreak) → r ≡ Some k → field_of p k.now f ≡ Some d
       → t.now ≡ d.of → IsJudged b on r a c → IsJudged b (e.Get slot on f) (Some t) a c
   get_typed slot on f r k d t a c some found is j =
       record {
@@ -100,15 +85,15 @@ module _ (b : Body) where
       q = has_type on r k a c some j
 
       typed : type_in b (e.Get slot on f) ≡ Some t.now
-      typed = type_get p g slot on f ∙ ap (λ t. accessed p t f) q ∙ ap (option_map (λ (d : Field). d.of)) found ∙ ap Some (sym is)
+      typed = type_get p types slot on f ∙ ap (λ t. accessed p t f) q ∙ ap (option_map (λ (d : Field). d.of)) found ∙ ap Some (sym is)
 
-  pub get_breaks : (slot : ℕ) (on : Expr) (f : List ℕ) (r : Option (Bor (List ℕ))) (k : Bor (List ℕ)) (a c h : List Break) → r ≡ Some k → field_of p k.now f ≡ None
-      → IsJudged b on r a c → Adds c h (at_nodes b (one b slot E2 true)) → IsJudged b (e.Get slot on f) None a h
+  pub get_breaks : (slot : ℕ) (on : Expr) (f : List ℕ) (r : Option (Bor (List ℕ))) (k : Bor (List ℕ)) (a c h : List NodeBreak) → r ≡ Some k → field_of p k.now f ≡ None
+      → IsJudged b on r a c → AddsAtNodes c h (one slot E2 true) → IsJudged b (e.Get slot on f) None a h
   get_breaks slot on f r k a c h some none j adds =
       record {
-        typed = sym (type_get p g slot on f ∙ ap (λ t. accessed p t f) q ∙ ap (option_map (λ (d : Field). d.of)) none);
-        adds = two_adds a c h (nodes_in b on) (at_nodes b (one b slot E2 true)) (nodes_in b (e.Get slot on f)) j.adds adds
-            (get_own slot on f (Some k.now) q ∙ ap (λ d. broken (nodes_in b on) ++ pairs b (one b slot E2 (not (is_some (option_map (λ (d : Field). d.of) d))))) none);
+        typed = sym (type_get p types slot on f ∙ ap (λ t. accessed p t f) q ∙ ap (option_map (λ (d : Field). d.of)) none);
+        adds = two_adds a c h (nodes_in b on) (one slot E2 true) (nodes_in b (e.Get slot on f)) j.adds adds
+            (get_own slot on f (Some k.now) q ∙ ap (λ d. broken_nodes (nodes_in b on) ++ broken_nodes (one slot E2 (not (is_some (option_map (λ (d : Field). d.of) d))))) none);
       }
     where
       q : type_in b on ≡ Some k.now
@@ -116,24 +101,24 @@ module _ (b : Body) where
 
   -- ---- casts
 
-  module _ (slot : ℕ) (k : List ℕ) (on : Expr) (r : Option (Bor (List ℕ))) (a m c : List Break) (named : IsNameJudged b slot k a m) (j : IsJudged b on r m c) where
+  module _ (slot : ℕ) (k : List ℕ) (on : Expr) (r : Option (Bor (List ℕ))) (a m c : List NodeBreak) (named : IsNameJudged b slot k a m) (j : IsJudged b on r m c) where
     abbrev cast : Expr
     cast = e.Cast slot k on
 
     cast_own : (t : Option (List ℕ)) → type_in b on ≡ t
-        → broken (nodes_in b cast) ≡ pairs b (one b slot K1 (not (is_known p k))) ++ (pairs b (one b slot E8 (is_unrelated p t k)) ++ broken (nodes_in b on))
+        → broken_nodes (nodes_in b cast) ≡ broken_nodes (one slot K1 (not (is_known p k))) ++ (broken_nodes (one slot E8 (is_unrelated p t k)) ++ broken_nodes (nodes_in b on))
     cast_own t is =
-        cast_pairs b slot k on ∙ ap (λ t. pairs b (one b slot K1 (not (is_known p k))) ++ (pairs b (one b slot E8 (is_unrelated p t k)) ++ broken (nodes_in b on))) is
+        cast_pairs b slot k on ∙ ap (λ t. broken_nodes (one slot K1 (not (is_known p k))) ++ (broken_nodes (one slot E8 (is_unrelated p t k)) ++ broken_nodes (nodes_in b on))) is
 
     -- where its own rule doesn't break
-    cast_quiet : (t : Option (List ℕ)) → type_in b on ≡ t → is_unrelated p t k ≡ false → Adds a c (nodes_in b cast)
+    cast_quiet : (t : Option (List ℕ)) → type_in b on ≡ t → is_unrelated p t k ≡ false → AddsAtNodes a c (nodes_in b cast)
     cast_quiet t is not_broken =
-        two_adds a m c (at_nodes b (one b slot K1 (not (is_known p k)))) (nodes_in b on) (nodes_in b cast) named j.adds
-        (cast_own t is ∙ ap (λ u. pairs b (one b slot K1 (not (is_known p k))) ++ (pairs b (one b slot E8 u) ++ broken (nodes_in b on))) not_broken)
+        two_adds a m c (one slot K1 (not (is_known p k))) (nodes_in b on) (nodes_in b cast) named j.adds
+        (cast_own t is ∙ ap (λ u. broken_nodes (one slot K1 (not (is_known p k))) ++ (broken_nodes (one slot E8 u) ++ broken_nodes (nodes_in b on))) not_broken)
 
     pub cast_stops : r ≡ None → IsJudged b cast None a c
     cast_stops none =
-        let q = untyped on r m c none j in record { typed = sym (type_cast p g slot k on ∙ ap (λ t. cast_type p t k) q); adds = cast_quiet None q refl }
+        let q = untyped on r m c none j in record { typed = sym (type_cast p types slot k on ∙ ap (λ t. cast_type p t k) q); adds = cast_quiet None q refl }
 
     module _ (d : Bor (List ℕ)) (some : r ≡ Some d) where
       q : type_in b on ≡ Some d.now
@@ -145,7 +130,7 @@ module _ (b : Body) where
       pub cast_unknown : is_known p k ≡ false → IsJudged b cast None a c
       cast_unknown unknown =
           record {
-            typed = sym (type_cast p g slot k on ∙ ap (λ t. cast_type p t k) q ∙ ap (λ known. type_by known (is_subtype p d.now k) (is_subtype p k d.now)) unknown);
+            typed = sym (type_cast p types slot k on ∙ ap (λ t. cast_type p t k) q ∙ ap (λ known. type_by known (is_subtype p d.now k) (is_subtype p k d.now)) unknown);
             adds = cast_quiet (Some d.now) q (ap (λ known. known && not (is_subtype p d.now k) && not (is_subtype p k d.now)) unknown);
           }
 
@@ -159,7 +144,7 @@ module _ (b : Body) where
       cast_fits t is known either =
           let apart = related (is_known p k) (is_subtype p d.now k) (is_subtype p k d.now) either in
           record {
-            typed = ap Some is ∙ sym (type_cast p g slot k on ∙ ap (λ t. cast_type p t k) q ∙ ap (λ u. type_if (true && is_known p k && not u) k) apart ∙ ap (λ known. type_if (true && known && true) k) known);
+            typed = ap Some is ∙ sym (type_cast p types slot k on ∙ ap (λ t. cast_type p t k) q ∙ ap (λ u. type_if (true && is_known p k && not u) k) apart ∙ ap (λ known. type_if (true && known && true) k) known);
             adds = cast_quiet (Some d.now) q apart;
           }
 
@@ -169,13 +154,13 @@ module _ (b : Body) where
       unrelated true false false n h = refl
       unrelated false below above n h = n
 
-      pub cast_breaks : (h : List Break) → is_known p k ≡ true → is_subtype p d.now k || is_subtype p k d.now ≡ false → Adds c h (at_nodes b (one b slot E8 true)) → IsJudged b cast None a h
+      pub cast_breaks : (h : List NodeBreak) → is_known p k ≡ true → is_subtype p d.now k || is_subtype p k d.now ≡ false → AddsAtNodes c h (one slot E8 true) → IsJudged b cast None a h
       cast_breaks h known neither adds =
           let apart = unrelated (is_known p k) (is_subtype p d.now k) (is_subtype p k d.now) known neither in
           record {
-            typed = sym (type_cast p g slot k on ∙ ap (λ t. cast_type p t k) q ∙ ap (λ u. type_if (true && is_known p k && not u) k) apart ∙ ap (λ known. type_if (true && known && false) k) known);
-            adds = three_adds a m c h (at_nodes b (one b slot K1 (not (is_known p k)))) (nodes_in b on) (at_nodes b (one b slot E8 true)) (nodes_in b cast) named j.adds adds
-                (cast_own (Some d.now) q ∙ ap (λ u. pairs b (one b slot K1 (not (is_known p k))) ++ (pairs b (one b slot E8 u) ++ broken (nodes_in b on))) apart
-                ∙ ap (λ z. pairs b (one b slot K1 (not (is_known p k))) ++ (pairs b (one b slot E8 true) ++ z)) (typed_quiet b on d.now q)
-                ∙ ap (λ z. pairs b (one b slot K1 (not (is_known p k))) ++ (z ++ pairs b (one b slot E8 true))) (sym (typed_quiet b on d.now q)));
+            typed = sym (type_cast p types slot k on ∙ ap (λ t. cast_type p t k) q ∙ ap (λ u. type_if (true && is_known p k && not u) k) apart ∙ ap (λ known. type_if (true && known && false) k) known);
+            adds = three_adds a m c h (one slot K1 (not (is_known p k))) (nodes_in b on) (one slot E8 true) (nodes_in b cast) named j.adds adds
+                (cast_own (Some d.now) q ∙ ap (λ u. broken_nodes (one slot K1 (not (is_known p k))) ++ (broken_nodes (one slot E8 u) ++ broken_nodes (nodes_in b on))) apart
+                ∙ ap (λ z. broken_nodes (one slot K1 (not (is_known p k))) ++ (broken_nodes (one slot E8 true) ++ z)) (typed_quiet b on d.now q)
+                ∙ ap (λ z. broken_nodes (one slot K1 (not (is_known p k))) ++ (z ++ broken_nodes (one slot E8 true))) (sym (typed_quiet b on d.now q)));
           }

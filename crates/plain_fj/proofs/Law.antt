@@ -10,7 +10,7 @@ use Rattle.cfj_model.specs.Members.{field_alts_rise, method_alts_rise}
 use Rattle.cfj_model.specs.ProductLines.{ProductLine, IsProject, object, most_fields, most_methods, are_distinct, is_field, are_fields as are_kept_fields, is_ctor, is_method as is_kept_method, are_methods, is_class}
 use Rattle.cfj_words.specs.Lists.{Has}
 use Rattle.cfj_model.specs.LookUps.{Table, is_called, is_known, is_subtype, declared, chain, all_fields, ancestors, field_called, first_some, method_called, method_of}
-use Rattle.cfj_model.specs.Judging.{first_breaking, are_same, environment_of, extends_itself, is_no_result, is_overridden_wrongly}
+use Rattle.cfj_model.specs.Judging.{first_breaking, are_same, environment_of, extends_itself, is_no_result, is_overridden_wrongly, variable_type}
 use Rattle.cfj_model.specs.Typing.{Extends, IsSubtype, HasFields, HasMethodType, IsMethodOk, IsClassOk, IsTableOk, IsWellTyped, param_types, param_pair, field_pair, class_uses}
 use Rattle.cfj_model.specs.declared.class.Class.{Class}
 use Rattle.cfj_model.specs.declared.class.Field.{Field}
@@ -260,7 +260,7 @@ keeps_well_typed p names each =
           ctor = (each k h).ctor;
           results = λ m i. (kept_method p k m ((each k h).methods m i)).result;
           params = λ m i. (kept_method p k m ((each k h).methods m i)).params;
-          bodies = λ m i. names_known p (environment_of k m) m.body (kept_method p k m ((each k h).methods m i)).typed;
+          bodies = λ m i. names_known p (variable_type (environment_of k m)) m.body (kept_method p k m ((each k h).methods m i)).typed;
         }
 
 -- A class table is well typed exactly where no rule breaks.

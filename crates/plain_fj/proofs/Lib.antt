@@ -9,7 +9,9 @@ pub mod Uses
 pub mod Kept
 pub mod Law
 pub mod TypeLists
+pub mod Growing
 pub mod Broken
+pub mod AddedNodes
 pub mod BrokenNodes
 pub mod JudgedNodes
 pub mod ArgumentFits
@@ -17,4 +19,5 @@ pub mod JudgedCalls
 pub mod JudgedNews
 pub mod MisfitScan
 pub mod JudgedArgs
+pub mod TypedClear
 pub mod SameNames

@@ -3,15 +3,14 @@ use Rattle.std.proofs.Common.{◌≡◌, ℕ, ◌+◌, ◌<◌, ◌≤◌, Bool,
 use Rattle.std.specs.List.{list_any}
 use Rattle.std.proofs.lemmas.List.{append_assoc, append-nil}
 use Rattle.cfj_model.specs.LookUps.{Table, is_subtype}
-use Rattle.cfj_model.specs.Judging.{Pair, misfits}
+use Rattle.cfj_model.specs.Judging.{misfits}
 use Rattle.cfj_model.specs.declared.expr.Arg.{Arg}
 use Rattle.cfj_model.specs.declared.site.Rule.{Rule}
-use Rattle.plain_fj.specs.Breaking.{Adds, told}
-use Rattle.plain_fj.specs.Found.{at_nodes, at_roots, names}
+use Rattle.plain_fj.specs.Breaking.{AddsAtNodes, SlotRule, broken_nodes, slot_rule}
+use Rattle.plain_fj.specs.Found.{at_roots, names}
 use Rattle.plain_fj.specs.declared.body.Body.{Body}
-use Rattle.plain_fj.specs.declared.site_break.Break.{Break}
-use Rattle.plain_fj.proofs.Broken.{broken_append}
-use Rattle.plain_fj.proofs.BrokenNodes.{pairs}
+use Rattle.plain_fj.specs.declared.node_break.NodeBreak.{NodeBreak}
+use Rattle.plain_fj.proofs.AddedNodes.{nodes_append}
 use Rattle.plain_fj.proofs.TypeLists.{drop_at, drop_past}
 
 or_assoc : (a b c : Bool) → (a || b) || c ≡ a || (b || c)
@@ -43,8 +42,8 @@ module _ (b : Body) (rule : Rule) (args : List Arg) (ts ws : List (Bor (List ℕ
   IsSomeUpTo i some = some || list_any (λ c. c) (rest i) ≡ list_any (λ c. c) (misfits p (names ts) (names ws))
 
   -- with the breaks at arguments from the place on, all are added
-  abbrev pub AreAddedUpTo : ℕ → List Break → List Break → Type 0
-  AreAddedUpTo i before now = map told now ++ pairs b (at_roots rule (drop i args) (rest i)) ≡ map told before ++ pairs b (at_roots rule args (misfits p (names ts) (names ws)))
+  abbrev pub AreAddedUpTo : ℕ → List NodeBreak → List NodeBreak → Type 0
+  AreAddedUpTo i before now = map slot_rule now ++ broken_nodes (at_roots rule (drop i args) (rest i)) ≡ map slot_rule before ++ broken_nodes (at_roots rule args (misfits p (names ts) (names ws)))
 
   module _ (i : ℕ) (many : length ts ≡ length args) (wanted : length ts ≡ length ws) where
     module _ (t w : Bor (List ℕ)) (lt : i < length ts) (at : t ≡ slice_index_or ts i t) (aw : w ≡ slice_index_or ws i w) where
@@ -58,18 +57,18 @@ module _ (b : Body) (rule : Rule) (args : List Arg) (ts ws : List (Bor (List ℕ
           ∙ ap (λ z. some || list_any (λ c. c) z) (sym rest_here)
           ∙ so_far
 
-      pub adds_more : (a : Arg) (before now later : List Break) → a ≡ slice_index_or args i a → AreAddedUpTo i before now
-          → Adds now later (at_nodes b (at_roots rule (a ∷ []) (not (is_subtype p t.now w.now) ∷ []))) → AreAddedUpTo (i + 1) before later
+      pub adds_more : (a : Arg) (before now later : List NodeBreak) → a ≡ slice_index_or args i a → AreAddedUpTo i before now
+          → AddsAtNodes now later (at_roots rule (a ∷ []) (not (is_subtype p t.now w.now) ∷ [])) → AreAddedUpTo (i + 1) before later
       adds_more a before now later ax so_far adds =
           let la : i < length args = omega (arith, many, lt) in
-          ap (λ z. z ++ pairs b (at_roots rule (drop (i + 1) args) (rest (i + 1)))) adds
-          ∙ append_assoc (map told now) here (pairs b (at_roots rule (drop (i + 1) args) (rest (i + 1))))
-          ∙ ap (λ z. map told now ++ z) (sym (broken_append (at_nodes b (at_roots rule (a ∷ []) (not (is_subtype p t.now w.now) ∷ []))) (at_nodes b (at_roots rule (drop (i + 1) args) (rest (i + 1))))))
-          ∙ ap₂ (λ xs cs. map told now ++ pairs b (at_roots rule xs cs)) (sym (drop_at args i a la ax)) (sym rest_here)
+          ap (λ z. z ++ broken_nodes (at_roots rule (drop (i + 1) args) (rest (i + 1)))) adds
+          ∙ append_assoc (map slot_rule now) here (broken_nodes (at_roots rule (drop (i + 1) args) (rest (i + 1))))
+          ∙ ap (λ z. map slot_rule now ++ z) (sym (nodes_append (at_roots rule (a ∷ []) (not (is_subtype p t.now w.now) ∷ [])) (at_roots rule (drop (i + 1) args) (rest (i + 1)))))
+          ∙ ap₂ (λ xs cs. map slot_rule now ++ broken_nodes (at_roots rule xs cs)) (sym (drop_at args i a la ax)) (sym rest_here)
           ∙ so_far
         where
-          here : List Pair
-          here = pairs b (at_roots rule (a ∷ []) (not (is_subtype p t.now w.now) ∷ []))
+          here : List SlotRule
+          here = broken_nodes (at_roots rule (a ∷ []) (not (is_subtype p t.now w.now) ∷ []))
 
     module _ (le : length ts ≤ i) where
       rest_past : rest i ≡ []
@@ -78,7 +77,7 @@ module _ (b : Body) (rule : Rule) (args : List Arg) (ts ws : List (Bor (List ℕ
       pub some_all : (some : Bool) → IsSomeUpTo i some → some ≡ list_any (λ c. c) (misfits p (names ts) (names ws))
       some_all some so_far = sym (or_false some) ∙ ap (λ z. some || list_any (λ c. c) z) (sym rest_past) ∙ so_far
 
-      pub adds_all : (before now : List Break) → AreAddedUpTo i before now → Adds before now (at_nodes b (at_roots rule args (misfits p (names ts) (names ws))))
+      pub adds_all : (before now : List NodeBreak) → AreAddedUpTo i before now → AddsAtNodes before now (at_roots rule args (misfits p (names ts) (names ws)))
       adds_all before now so_far =
           let la : length args ≤ i = omega (arith, many, le) in
-          sym (append-nil (map told now)) ∙ ap₂ (λ xs cs. map told now ++ pairs b (at_roots rule xs cs)) (sym (drop_past args i la)) (sym rest_past) ∙ so_far
+          sym (append-nil (map slot_rule now)) ∙ ap₂ (λ xs cs. map slot_rule now ++ broken_nodes (at_roots rule xs cs)) (sym (drop_past args i la)) (sym rest_past) ∙ so_far

@@ -6,7 +6,7 @@ use Rattle.std.proofs.lemmas.List.Folds.{list_all-append}
 use Rattle.cfj_model.specs.LookUps.{Table, is_known, all_fields, ancestors, field_called, first_some, method_called}
 use Rattle.cfj_model.specs.Members.{Placed, placed, is_again, field_name_of, method_name_of}
 use Rattle.cfj_model.specs.ProductLines.{are_distinct}
-use Rattle.cfj_model.specs.Judging.{RuleAt, Ruling, judged_at, judged_field, judged_ctor, judged_method, judged_class, judged, pair_of, first_breaking, are_same, takes_fields, environment_of, extends_itself, is_no_result, is_overridden_wrongly}
+use Rattle.cfj_model.specs.Judging.{RuleAt, Ruling, judged_at, judged_field, judged_ctor, judged_method, judged_class, judged, pair_of, first_breaking, are_same, takes_fields, environment_of, extends_itself, is_no_result, is_overridden_wrongly, variable_type}
 use Rattle.cfj_model.specs.declared.class.Class.{Class}
 use Rattle.cfj_model.specs.declared.class.Field.{Field}
 use Rattle.cfj_model.specs.declared.class.Method.{Method}
@@ -25,7 +25,7 @@ none_judged js = list_all (λ j. not j.breaks) js
 
 -- the type of a method's body
 abbrev pub body_type : Table → Class → Method → Option (List ℕ)
-body_type p k m = type_of p (environment_of k m) m.body
+body_type p k m = type_of p (variable_type (environment_of k m)) m.body
 
 abbrev pub are_known_params : Table → List Param → Bool
 are_known_params p qs = list_all (λ q. is_known p q.of) qs
@@ -117,7 +117,7 @@ method_judged p k q =
     ap (λ b. not (not (is_known p m.result)) && (not wrong && (not (is_no_result p m (body_type p k m)) && (not (is_again method_name_of q) && b))))
     (list_all-append (λ (j : RuleAt). not j.breaks) params nodes
     ∙ ap (λ b. b && none_judged nodes) (params_judged (λ q. site.Param k.name m.name m.alt q.slot) p m.params)
-    ∙ ap (λ b. are_known_params p m.params && b) (nodes_judged (λ n. site.Node k.name m.name m.alt n) ((judged_of p (environment_of k m) m.body).rules []) ∙ clear p (environment_of k m) m.body []))
+    ∙ ap (λ b. are_known_params p m.params && b) (nodes_judged (λ n. site.Node k.name m.name m.alt n) ((judged_of p (variable_type (environment_of k m)) m.body).rules []) ∙ clear p (variable_type (environment_of k m)) m.body []))
     ∙ method_rules (is_known p m.result) wrong (is_no_result p m (body_type p k m)) (is_again method_name_of q) (are_known_params p m.params) (is_some (body_type p k m))
   where
     m : Method
@@ -130,7 +130,7 @@ method_judged p k q =
     params = flat_map (λ (q : Param). judged_at (site.Param k.name m.name m.alt q.slot) ((K1, not (is_known p q.of)) ∷ [])) m.params
 
     nodes : List RuleAt
-    nodes = flat_map (λ (n : ℕ × List Ruling). judged_at (site.Node k.name m.name m.alt n.0) n.1) ((judged_of p (environment_of k m) m.body).rules [])
+    nodes = flat_map (λ (n : ℕ × List Ruling). judged_at (site.Node k.name m.name m.alt n.0) n.1) ((judged_of p (variable_type (environment_of k m)) m.body).rules [])
 
 ctor_judged : (p : Table) (k : Class) → none_judged (judged_ctor p k) ≡ ctor_keeps p k
 ctor_judged p k =

@@ -5,11 +5,11 @@ ghost use Rattle.std.specs.Option.{ForSome};
 ghost use Rattle.cfj_model.specs.declared.expr.Expr.{Expr};
 ghost use Rattle.cfj_model.specs.declared.expr.Expr.TheVariants as variant;
 ghost use Rattle.plain_fj.specs.Found.{AreJudged, IsJudged};
-ghost use Rattle.plain_fj.specs.declared.site_break.Break.{Break};
+ghost use Rattle.plain_fj.specs.declared.node_break.NodeBreak.{NodeBreak};
 
 use crate::body::Body;
 use crate::misfits::add_misfits;
-use crate::site_break::Break;
+use crate::node_break::{NodeBreak, note_node};
 use crate::wanted::param_types;
 use cfj_model::{Arg, Name, Rule};
 use std::alloc::AllocError;
@@ -22,10 +22,10 @@ pub fn at_call<'a>(
     method: &Name,
     args: &[Arg],
     types: Option<Vec<&'a Name>>,
-    breaks: &mut Vec<Break<'a>>,
+    breaks: &mut Vec<NodeBreak>,
 ) -> Result<Option<&'a Name>, AllocError>
     requires { ForSome types (λ ts. length ts.items ≡ length args.now) }
-    ensures { IfOk result (λ found. (on : Expr) (before middle : List Break) → IsJudged body.now on receiver.entry before middle
+    ensures { IfOk result (λ found. (on : Expr) (before middle : List NodeBreak) → IsJudged body.now on receiver.entry before middle
         → AreJudged body.now args.now types.entry middle breaks.old.items → IsJudged body.now (variant.Call slot on method.now args.now) found before breaks.new.items) }
 {
     let class = match receiver {
@@ -39,7 +39,7 @@ pub fn at_call<'a>(
     let called = match body.table.method_of(class, method) {
         Some(called) => called,
         None => {
-            body.add(breaks, slot, Rule::E3)?;
+            note_node(breaks, slot, Rule::E3, true)?;
             return Ok(None);
         }
     };
@@ -47,7 +47,7 @@ pub fn at_call<'a>(
     let given = types.as_slice();
     let wanted = wanted.as_slice();
     if given.len() != wanted.len() {
-        body.add(breaks, slot, Rule::E4)?;
+        note_node(breaks, slot, Rule::E4, true)?;
         return Ok(None);
     }
     if add_misfits(body, args, given, wanted, Rule::E5, breaks)? {

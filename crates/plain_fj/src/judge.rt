@@ -6,8 +6,8 @@ ghost use Rattle.plain_fj.specs.Found.{AreJudged, IsJudged};
 use crate::body::Body;
 use crate::calls::at_call;
 use crate::news::at_new;
+use crate::node_break::NodeBreak;
 use crate::nodes::{at_access, at_cast, at_variable};
-use crate::site_break::Break;
 use cfj_model::{Arg, Expr, Name};
 use std::alloc::AllocError;
 
@@ -20,7 +20,7 @@ use std::alloc::AllocError;
 pub fn judge<'a>(
     body: &Body<'a, '_>,
     expr: &'a Expr,
-    breaks: &mut Vec<Break<'a>>,
+    breaks: &mut Vec<NodeBreak>,
 ) -> Result<Option<&'a Name>, AllocError>
     ensures { IfOk result (λ found. IsJudged body.now expr.now found breaks.old.items breaks.new.items) }
 {
@@ -64,7 +64,7 @@ pub fn judge<'a>(
 fn judge_args<'a>(
     body: &Body<'a, '_>,
     args: &'a [Arg],
-    breaks: &mut Vec<Break<'a>>,
+    breaks: &mut Vec<NodeBreak>,
 ) -> Result<Option<Vec<&'a Name>>, AllocError>
     ensures { IfOk result (λ found. AreJudged body.now args.now found breaks.old.items breaks.new.items) }
 {

@@ -10,9 +10,11 @@ ghost use Rattle.cfj_model.specs.Typing as typing;
 ghost use Rattle.class_table.specs.ByName.{seen};
 ghost use Rattle.plain_fj.specs.Alternatives.{IsToldByAlt, behind};
 ghost use Rattle.plain_fj.specs.Breaking.{Adds, judged_param};
+ghost use Rattle.plain_fj.specs.Found.{judged_break};
 
-use crate::body::Body;
+use crate::body::{Body, Scope};
 use crate::judge::judge;
+use crate::node_break::NodeBreak;
 use crate::same_names::are_same;
 use crate::site_break::{Break, note};
 use crate::wanted::param_types;
@@ -83,6 +85,34 @@ fn judge_params<'a>(
     Ok(())
 }
 
+/// Adds a break at a node of a method's body, at its site.
+fn add_node<'a>(
+    class: &'a Class,
+    method: &'a Method,
+    found: &NodeBreak,
+    breaks: &mut Vec<Break<'a>>,
+) -> Result<(), AllocError>
+    ensures { OnOk result (Adds breaks.old.items breaks.new.items (judged_break class.now method.now found.now)) }
+{
+    let site = SiteRef::Node(&class.name, &method.name, method.alt, found.slot);
+    note(breaks, site, found.rule, true)
+}
+
+/// Adds the breaks at the nodes of a method's body, at their sites.
+fn add_nodes<'a>(
+    class: &'a Class,
+    method: &'a Method,
+    within: &[NodeBreak],
+    breaks: &mut Vec<Break<'a>>,
+) -> Result<(), AllocError>
+    ensures { OnOk result (Adds breaks.old.items breaks.new.items (flat_map (judged_break class.now method.now) within.now)) }
+{
+    'each: for found in within {
+        add_node(class, method, found, breaks)?;
+    }
+    Ok(())
+}
+
 /// Adds the breaks at a method, which stands behind those before it in its class. Those of its body come last, but the body's type
 /// says whether the method's own rules break.
 fn judge_method<'a>(
@@ -101,12 +131,9 @@ fn judge_method<'a>(
     let body = Body {
         alloc,
         table,
-        class: &class.name,
-        method: &method.name,
-        alt: method.alt,
-        params: method.params.slice(),
+        scope: Scope::Of(&class.name, method.params.slice()),
     };
-    let mut within: Vec<Break<'a>> = Vec::new(alloc);
+    let mut within: Vec<NodeBreak> = Vec::new(alloc);
     let of = judge(&body, &method.body, &mut within)?;
     let site = SiteRef::Method(&class.name, &method.name, method.alt);
     note(breaks, site, Rule::K1, !table.is_known(&method.result))?;
@@ -115,7 +142,7 @@ fn judge_method<'a>(
     note(breaks, site, Rule::K8, misses_result(table, method, of))?;
     note(breaks, site, Rule::K9, is_method_again(before, method))?;
     judge_params(table, class, method, breaks)?;
-    breaks.extend_from_slice(within.as_slice())
+    add_nodes(class, method, within.as_slice(), breaks)
 }
 
 /// Adds the breaks at the methods that a class itself declares.

@@ -4,11 +4,11 @@ ghost use Rattle.std.specs.Prelude.{◌≡◌, IfOk, List, length};
 ghost use Rattle.std.specs.Option.{ForSome};
 ghost use Rattle.cfj_model.specs.declared.expr.Expr.TheVariants as variant;
 ghost use Rattle.plain_fj.specs.Found.{AreJudged, IsJudged, IsNameJudged};
-ghost use Rattle.plain_fj.specs.declared.site_break.Break.{Break};
+ghost use Rattle.plain_fj.specs.declared.node_break.NodeBreak.{NodeBreak};
 
 use crate::body::Body;
 use crate::misfits::add_misfits;
-use crate::site_break::Break;
+use crate::node_break::{NodeBreak, note_node};
 use crate::wanted::field_types;
 use cfj_model::{Arg, Name, Rule};
 use std::alloc::AllocError;
@@ -20,10 +20,10 @@ pub fn at_new<'a>(
     class: &'a Name,
     args: &[Arg],
     types: Option<Vec<&'a Name>>,
-    breaks: &mut Vec<Break<'a>>,
+    breaks: &mut Vec<NodeBreak>,
 ) -> Result<Option<&'a Name>, AllocError>
     requires { ForSome types (λ ts. length ts.items ≡ length args.now) }
-    ensures { IfOk result (λ found. (before middle : List Break) → IsNameJudged body.now slot class.now before middle
+    ensures { IfOk result (λ found. (before middle : List NodeBreak) → IsNameJudged body.now slot class.now before middle
         → AreJudged body.now args.now types.entry middle breaks.old.items → IsJudged body.now (variant.New slot class.now args.now) found before breaks.new.items) }
 {
     let types = match types {
@@ -37,7 +37,7 @@ pub fn at_new<'a>(
     let given = types.as_slice();
     let wanted = wanted.as_slice();
     if given.len() != wanted.len() {
-        body.add(breaks, slot, Rule::E6)?;
+        note_node(breaks, slot, Rule::E6, true)?;
         return Ok(None);
     }
     if add_misfits(body, args, given, wanted, Rule::E7, breaks)? {

@@ -1,18 +1,16 @@
 //! The rules of variables, field accesses and casts.
 
-ghost use Rattle.std.specs.Prelude.{◌≡◌, ◌||◌, IfOk, List, find};
-ghost use Rattle.std.specs.Option.{option_copied};
-ghost use Rattle.std.specs.Str.{bytes_eq};
+ghost use Rattle.std.specs.Prelude.{◌≡◌, ◌||◌, IfOk, List};
 ghost use Rattle.cfj_model.specs.LookUps.{is_subtype};
 ghost use Rattle.cfj_model.specs.declared.expr.Expr.{Expr};
 ghost use Rattle.cfj_model.specs.declared.expr.Expr.TheVariants as variant;
 ghost use Rattle.plain_fj.specs.Found as found;
 ghost use Rattle.plain_fj.specs.Found.{IsJudged, IsNameJudged};
-ghost use Rattle.plain_fj.specs.declared.site_break.Break.{Break};
+ghost use Rattle.plain_fj.specs.declared.node_break.NodeBreak.{NodeBreak};
 
 use crate::body::Body;
-use crate::site_break::Break;
-use cfj_model::{Expr, Name, Param, Rule};
+use crate::node_break::{NodeBreak, note_node};
+use cfj_model::{Expr, Name, Rule};
 use class_table::ClassTable;
 use std::alloc::AllocError;
 
@@ -46,29 +44,19 @@ pub fn slot_of(expr: &Expr) -> u16
     }
 }
 
-fn param_called<'a>(params: &'a [Param], name: &Name) -> Option<&'a Param>
-    ensures { option_copied result ≡ find (λ q. bytes_eq q.name name.now) params.now }
-{
-    let name = name.text();
-    params.iter().find(|param| param.name.text() == name)
-}
-
 /// The type of a variable, if it has one. The break is added, if there is one.
 pub fn at_variable<'a>(
     body: &Body<'a, '_>,
     slot: u16,
     name: &Name,
-    breaks: &mut Vec<Break<'a>>,
+    breaks: &mut Vec<NodeBreak>,
 ) -> Result<Option<&'a Name>, AllocError>
     ensures { IfOk result (λ found. IsJudged body.now (variant.Var slot name.now) found breaks.old.items breaks.new.items) }
 {
-    if name.text() == "this" {
-        return Ok(Some(body.class));
-    }
-    match param_called(body.params, name) {
-        Some(param) => Ok(Some(&param.of)),
+    match body.scope.type_of(name) {
+        Some(of) => Ok(Some(of)),
         None => {
-            body.add(breaks, slot, Rule::E1)?;
+            note_node(breaks, slot, Rule::E1, true)?;
             Ok(None)
         }
     }
@@ -80,9 +68,9 @@ pub fn at_access<'a>(
     slot: u16,
     receiver: Option<&'a Name>,
     field: &Name,
-    breaks: &mut Vec<Break<'a>>,
+    breaks: &mut Vec<NodeBreak>,
 ) -> Result<Option<&'a Name>, AllocError>
-    ensures { IfOk result (λ found. (on : Expr) (before : List Break) → IsJudged body.now on receiver.entry before breaks.old.items
+    ensures { IfOk result (λ found. (on : Expr) (before : List NodeBreak) → IsJudged body.now on receiver.entry before breaks.old.items
         → IsJudged body.now (variant.Get slot on field.now) found before breaks.new.items) }
 {
     let class = match receiver {
@@ -92,7 +80,7 @@ pub fn at_access<'a>(
     match body.table.field_of(class, field) {
         Some(found) => Ok(Some(&found.of)),
         None => {
-            body.add(breaks, slot, Rule::E2)?;
+            note_node(breaks, slot, Rule::E2, true)?;
             Ok(None)
         }
     }
@@ -111,9 +99,9 @@ pub fn at_cast<'a>(
     slot: u16,
     class: &'a Name,
     operand: Option<&'a Name>,
-    breaks: &mut Vec<Break<'a>>,
+    breaks: &mut Vec<NodeBreak>,
 ) -> Result<Option<&'a Name>, AllocError>
-    ensures { IfOk result (λ found. (on : Expr) (before middle : List Break) → IsNameJudged body.now slot class.now before middle
+    ensures { IfOk result (λ found. (on : Expr) (before middle : List NodeBreak) → IsNameJudged body.now slot class.now before middle
         → IsJudged body.now on operand.entry middle breaks.old.items → IsJudged body.now (variant.Cast slot class.now on) found before breaks.new.items) }
 {
     let from = match operand {
@@ -126,6 +114,6 @@ pub fn at_cast<'a>(
     if are_related(body.table, from, class) {
         return Ok(Some(class));
     }
-    body.add(breaks, slot, Rule::E8)?;
+    note_node(breaks, slot, Rule::E8, true)?;
     Ok(None)
 }

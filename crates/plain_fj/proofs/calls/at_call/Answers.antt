@@ -18,7 +18,7 @@ returns-in-None-types c = λ on before middle j js.
 pub returns-in-None-method_of : goal.returns-in-None-method_of
 returns-in-None-method_of c = λ on before middle j js.
     call_no_method c.args.body.now c.args.slot on c.args.method.now c.args.args.now c.args.receiver c.args.types before middle c.args.breaks.now.items j js
-    c.in-Some.class c.in-Some.is c.in-Some-types.types c.in-Some-types.is c.add.new.breaks.items (sym c.in-None-method_of.ensures) c.in_ok-add-in-None-method_of.ensures
+    c.in-Some.class c.in-Some.is c.in-Some-types.types c.in-Some-types.is c.note_node.new.breaks.items (sym c.in-None-method_of.ensures) c.in_ok-note_node-in-None-method_of.ensures
 
 pub returns-then-given-wanted : goal.returns-then-given-wanted
 returns-then-given-wanted c = λ on before middle j js.
@@ -29,8 +29,8 @@ returns-then-given-wanted c = λ on before middle j js.
     let wanted = ap names c.as_slice-wanted.ensures.value ∙ c.in_ok-wanted.ensures ∙ ap param_types c.slice.ensures in
     let differ : length c.as_slice-given.result.now ≡ length c.as_slice-wanted.result.now → ⊥ = λ e. absurd (omega (arith, e, c.if-given-wanted.true)) in
     call_differs b c.args.slot on c.args.method.now c.args.args.now c.args.receiver c.args.types before middle c.args.breaks.now.items j js
-    c.in-Some.class c.in-Some.is ts c.in-Some-types.is d (sym c.in-Some-method_of.ensures) c.add-then-given-wanted.new.breaks.items
-    (lengths_differ b c.as_slice-given.result.now c.as_slice-wanted.result.now (names ts.items) (param_types d.params) types wanted differ) c.in_ok-add.ensures
+    c.in-Some.class c.in-Some.is ts c.in-Some-types.is d (sym c.in-Some-method_of.ensures) c.note_node-then-given-wanted.new.breaks.items
+    (lengths_differ b c.as_slice-given.result.now c.as_slice-wanted.result.now (names ts.items) (param_types d.params) types wanted differ) c.in_ok-note_node.ensures
 
 pub add_misfits-requires-clause-as_many : goal.add_misfits-requires-clause-as_many
 add_misfits-requires-clause-as_many c = ap length c.as_slice-given.ensures.value ∙ c.requires c.in-Some-types.types c.in-Some-types.is

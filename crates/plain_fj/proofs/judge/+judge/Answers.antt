@@ -2,9 +2,9 @@ use Rattle.std.proofs.Common.{◌≡◌, ℕ, ◌+◌, List, length, arith, refl
 use Rattle.cfj_model.specs.declared.expr.Expr.{Expr}
 use Rattle.cfj_model.specs.declared.expr.Expr.TheVariants as variant
 use Rattle.plain_fj.specs.Found.{AreJudged, IsJudged, IsNameJudged, nodes_in}
-use Rattle.plain_fj.specs.declared.site_break.Break.{Break}
+use Rattle.plain_fj.specs.declared.node_break.NodeBreak.{NodeBreak}
+use Rattle.plain_fj.proofs.AddedNodes.{added_more}
 use Rattle.plain_fj.proofs.ArgumentFits.{as_many}
-use Rattle.plain_fj.proofs.Broken.{added_more}
 use Rattle.plain_fj.proofs.TypeLists.{drop_at}
 use Rattle.plain_fj.proofs.JudgedArgs.{AreTypesUpTo, found_all, found_none, judged_as, ok_gives, types_begin, types_more, types_same}
 use Rattle.plain_fj.proofs.judge.+judge.Goals as goal
@@ -27,7 +27,7 @@ judge-returns-in_ok-receiver-in-Get t c =
     let middle = c.judge.new.breaks.items in
     let after = c.at_access.new.breaks.items in
     ok_gives
-    (λ (found : Option (Bor (List ℕ))). (on : Expr) (before : List Break) → IsJudged b on c.in_ok-receiver-in-Get.receiver before middle → IsJudged b (variant.Get c.in-Get.slot on c.in-Get.field) found before after)
+    (λ (found : Option (Bor (List ℕ))). (on : Expr) (before : List NodeBreak) → IsJudged b on c.in_ok-receiver-in-Get.receiver before middle → IsJudged b (variant.Get c.in-Get.slot on c.in-Get.field) found before after)
     (λ (found : Option (Bor (List ℕ))). IsJudged b c.args.expr.now found before after)
     (λ found h. judged_as b c.args.expr.now x found before after (c.in-Get.is ∙ ap (λ (on : Expr). variant.Get c.in-Get.slot on c.in-Get.field) (sym c.get.ensures))
     (h c.get.result.now before c.in_ok-receiver-in-Get.ensures))
@@ -50,7 +50,7 @@ judge-returns-in_ok-types-in-Call t c =
     let last = c.judge_args.new.breaks.items in
     let after = c.at_call.new.breaks.items in
     ok_gives
-    (λ (found : Option (Bor (List ℕ))). (on : Expr) (before middle : List Break) → IsJudged b on c.in_ok-receiver-in-Call.receiver before middle → AreJudged b args c.in_ok-types-in-Call.types middle last
+    (λ (found : Option (Bor (List ℕ))). (on : Expr) (before middle : List NodeBreak) → IsJudged b on c.in_ok-receiver-in-Call.receiver before middle → AreJudged b args c.in_ok-types-in-Call.types middle last
     → IsJudged b (variant.Call c.in-Call.slot on c.in-Call.method args) found before after)
     (λ (found : Option (Bor (List ℕ))). IsJudged b c.args.expr.now found before after)
     (λ found h. judged_as b c.args.expr.now x found before after
@@ -68,7 +68,7 @@ judge-returns-in_ok-types-in-New t c =
     let last = c.judge_args-in-New.new.breaks.items in
     let after = c.at_new.new.breaks.items in
     ok_gives
-    (λ (found : Option (Bor (List ℕ))). (before middle : List Break) → IsNameJudged b c.in-New.slot c.in-New.class before middle → AreJudged b args c.in_ok-types-in-New.types middle last
+    (λ (found : Option (Bor (List ℕ))). (before middle : List NodeBreak) → IsNameJudged b c.in-New.slot c.in-New.class before middle → AreJudged b args c.in_ok-types-in-New.types middle last
     → IsJudged b (variant.New c.in-New.slot c.in-New.class args) found before after)
     (λ (found : Option (Bor (List ℕ))). IsJudged b c.args.expr.now found before after)
     (λ found h. judged_as b c.args.expr.now x found before after (c.in-New.is ∙ ap (variant.New c.in-New.slot c.in-New.class) (sym c.slice-args-in-New.ensures))
@@ -83,7 +83,7 @@ judge-returns-in_ok-operand-in-Cast t c =
     let last = c.judge-in-Cast.new.breaks.items in
     let after = c.at_cast.new.breaks.items in
     ok_gives
-    (λ (found : Option (Bor (List ℕ))). (on : Expr) (before middle : List Break) → IsNameJudged b c.in-Cast.slot c.in-Cast.target before middle → IsJudged b on c.in_ok-operand-in-Cast.operand middle last
+    (λ (found : Option (Bor (List ℕ))). (on : Expr) (before middle : List NodeBreak) → IsNameJudged b c.in-Cast.slot c.in-Cast.target before middle → IsJudged b on c.in_ok-operand-in-Cast.operand middle last
     → IsJudged b (variant.Cast c.in-Cast.slot c.in-Cast.target on) found before after)
     (λ (found : Option (Bor (List ℕ))). IsJudged b c.args.expr.now found before after)
     (λ found h. judged_as b c.args.expr.now x found before after (c.in-Cast.is ∙ ap (variant.Cast c.in-Cast.slot c.in-Cast.target) (sym c.get-in-Cast.ensures))

@@ -1,6 +1,6 @@
 use Rattle.cfj_model.specs.declared.expr.Arg.{Arg}
 use Rattle.plain_fj.specs.Found.{nodes_in}
-use Rattle.plain_fj.proofs.Broken.{IsAddedUpTo}
+use Rattle.plain_fj.proofs.AddedNodes.{IsAddedUpTo}
 use Rattle.plain_fj.proofs.JudgedArgs.{AreTypesUpTo}
 use Rattle.plain_fj.proofs.judge.+judge.Given as goal
 

@@ -25,8 +25,8 @@ returns-then-given-wanted c = λ before middle named js.
     let wanted = ap names c.as_slice-wanted.ensures.value ∙ c.in_ok-wanted.ensures ∙ ap (λ ks. own_types (fields_of ks)) c.chain.ensures in
     let differ : length c.as_slice-given.result.now ≡ length c.as_slice-wanted.result.now → ⊥ = λ e. absurd (omega (arith, e, c.if-given-wanted.true)) in
     new_differs b c.args.slot c.args.class.now c.args.args.now c.args.types before middle c.args.breaks.now.items named js
-    ts c.in-Some.is (sym c.is_known.ensures ∙ c.if-not-is_known.false) c.add.new.breaks.items
-    (lengths_differ b c.as_slice-given.result.now c.as_slice-wanted.result.now (names ts.items) ws types wanted differ) c.in_ok-add.ensures
+    ts c.in-Some.is (sym c.is_known.ensures ∙ c.if-not-is_known.false) c.note_node.new.breaks.items
+    (lengths_differ b c.as_slice-given.result.now c.as_slice-wanted.result.now (names ts.items) ws types wanted differ) c.in_ok-note_node.ensures
 
 pub add_misfits-requires-clause-as_many : goal.add_misfits-requires-clause-as_many
 add_misfits-requires-clause-as_many c = ap length c.as_slice-given.ensures.value ∙ c.requires c.in-Some.types c.in-Some.is

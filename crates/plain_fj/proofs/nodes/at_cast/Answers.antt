@@ -17,5 +17,5 @@ returns-then-are_related c = λ on before middle named j.
 
 pub returns : goal.returns
 returns c = λ on before middle named j.
-    cast_breaks c.args.body.now c.args.slot c.args.class.now on c.args.operand before middle c.args.breaks.now.items named j c.in-Some.from c.in-Some.is c.add.new.breaks.items
-    (sym c.is_known.ensures ∙ c.if-not-is_known.false) (sym c.are_related.ensures ∙ c.if-are_related.false) c.in_ok-add.ensures
+    cast_breaks c.args.body.now c.args.slot c.args.class.now on c.args.operand before middle c.args.breaks.now.items named j c.in-Some.from c.in-Some.is c.note_node.new.breaks.items
+    (sym c.is_known.ensures ∙ c.if-not-is_known.false) (sym c.are_related.ensures ∙ c.if-are_related.false) c.in_ok-note_node.ensures

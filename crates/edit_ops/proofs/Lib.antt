@@ -1,5 +1,7 @@
 mod Changing
+mod MembersStay
 mod Places
 mod Refusing
+mod Renumbering
 mod Slots
 mod Stays

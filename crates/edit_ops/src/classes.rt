@@ -49,7 +49,7 @@ pub fn add_class(alloc: Global, project: &Project, class: Class) -> Result<Proje
 }
 
 /// The place of the class of this name.
-fn place_of(project: &Project, class: &Name) -> usize
+pub(crate) fn place_of(project: &Project, class: &Name) -> usize
     requires { has_site project.now.classes (site.Class class.now) ≡ true }
     ensures place { position (is_called class.now) project.now.classes ≡ Some result }
     ensures within { result < length project.now.classes }

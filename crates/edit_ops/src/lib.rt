@@ -7,12 +7,15 @@
 
 mod classes;
 mod found;
+mod member_edits;
+mod members;
 mod naming;
 mod refused;
 mod spot;
 
 pub use classes::{add_class, remove_class, set_constructor, set_super};
 pub use found::has_site;
+pub use member_edits::remove_member;
 pub use naming::{finds, named};
 pub use refused::EditRefused;
 pub use spot::Spot;

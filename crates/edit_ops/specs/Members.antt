@@ -1,0 +1,50 @@
+-- What edits make of the members of a class, and what refuses them.
+use Rattle.std.specs.Prelude.{◌≡◌, ℕ, Bool, true, false, not, ◌&&◌, ◌==◌, nat_lt, List, [], ◌∷◌, ◌++◌, length, map, filter, slice_set, if◌then◌else◌, Option, Some, None}
+use Rattle.std.specs.List.{position_or_len}
+use Rattle.std.specs.Str.{bytes_eq}
+use Rattle.cfj_model.specs.Members.{field_name_of, method_name_of, namesakes, placed}
+use Rattle.cfj_model.specs.ProductLines.{ProductLine, most_fields, most_methods}
+use Rattle.cfj_model.specs.declared.class.Class.{Class}
+use Rattle.cfj_model.specs.declared.class.Field.{Field}
+use Rattle.cfj_model.specs.declared.class.Method.{Method}
+use Rattle.cfj_model.specs.declared.member_name.MemberName.{MemberName}
+use Rattle.cfj_model.specs.declared.member_name.MemberName.TheVariants as named
+use Rattle.edit_ops.specs.Changes.{changed}
+
+-- a kind of member: its name, its alt, and the same member with another alt
+pub record Kind (A : Type 0) : Type 0 where
+  pub name_of : A → List ℕ
+  pub alt_of : A → ℕ
+  pub with_alt : A → ℕ → A
+
+abbrev pub fields : Kind Field
+fields = record { name_of = field_name_of; alt_of = λ f. f.alt; with_alt = λ f n. record f { alt = n } }
+
+abbrev pub methods : Kind Method
+methods = record { name_of = method_name_of; alt_of = λ m. m.alt; with_alt = λ m n. record m { alt = n } }
+
+module _ {A : Type 0} (kind : Kind A) where
+  -- it has this name and alt
+  abbrev pub is_member : List ℕ → ℕ → A → Bool
+  is_member n alt x = bytes_eq (kind.name_of x) n && (kind.alt_of x == alt)
+
+  -- the alt of each member of this name is the number of those before it; the others stay
+  abbrev pub renumbered : List ℕ → List A → List A
+  renumbered n xs = map (λ p. if bytes_eq (kind.name_of p.item) n then kind.with_alt p.item (namesakes kind.name_of p) else p.item) (placed xs)
+
+  -- the member of this name and alt goes
+  abbrev pub removed : List ℕ → ℕ → List A → List A
+  removed n alt xs = renumbered n (filter (λ x. not (is_member n alt x)) xs)
+
+-- the field of this name and alt goes
+abbrev pub field_removed : List ℕ → ℕ → Class → Class
+field_removed f alt k = record k { fields = removed fields f alt k.fields }
+
+-- the method of this name and alt goes
+abbrev pub method_removed : List ℕ → ℕ → Class → Class
+method_removed m alt k = record k { methods = removed methods m alt k.methods }
+
+-- a member goes, and those of its name are numbered anew
+abbrev pub member_removed : MemberName → ProductLine → ProductLine
+member_removed (named.Field c f alt) line = record line { classes = changed c (field_removed f alt) line.classes }
+member_removed (named.Method c m alt) line = record line { classes = changed c (method_removed m alt) line.classes }

@@ -1,0 +1,78 @@
+//! Members of a class as fields and methods have them in common.
+
+ghost use Rattle.std.specs.Prelude.{◌≡◌, ◌<◌, length};
+ghost use Rattle.edit_ops.specs.Members as spec;
+ghost use Rattle.edit_ops.specs.Members.{Kind};
+
+use cfj_model::{Field, Method, Name};
+
+/// A member of a class, which its alt tells apart from those of its name.
+pub(crate) trait Numbered: Drop {
+    ghost kind: { Kind Self };
+
+    fn name(&self) -> &Name
+        ensures { result.now ≡ kind.name_of self.now };
+
+    fn alt(&self) -> u16
+        ensures { result ≡ kind.alt_of self.now };
+
+    fn set_alt(&mut self, alt: u16)
+        ensures { self.new ≡ kind.with_alt self.old alt };
+}
+
+impl Numbered for Field {
+    ghost kind = { spec.fields };
+
+    fn name(&self) -> &Name {
+        &self.name
+    }
+
+    fn alt(&self) -> u16 {
+        self.alt
+    }
+
+    fn set_alt(&mut self, alt: u16) {
+        self.alt = alt;
+    }
+}
+
+impl Numbered for Method {
+    ghost kind = { spec.methods };
+
+    fn name(&self) -> &Name {
+        &self.name
+    }
+
+    fn alt(&self) -> u16 {
+        self.alt
+    }
+
+    fn set_alt(&mut self, alt: u16) {
+        self.alt = alt;
+    }
+}
+
+/// Numbers the members of this name in order, from 0.
+fn renumber<M: Numbered>(members: &mut [M], name: &Name)
+    requires { length members.old < 65536 }
+    ensures { members.new ≡ spec.renumbered M.kind name.now members.old }
+{
+    let mut alt = 0u16;
+    'each: for member in members.iter_mut() {
+        if member.name() == name {
+            member.set_alt(alt);
+            alt += 1;
+        }
+    }
+}
+
+/// These members without the one of this name and alt, those of its name numbered anew.
+pub(crate) fn without<M: Numbered>(members: Vec<M>, name: &Name, alt: u16) -> Vec<M>
+    requires { length members.items < 65536 }
+    ensures { result.items ≡ spec.removed M.kind name.now alt members.items }
+{
+    let mut members = members;
+    members.retain(|member| member.name() != name || member.alt() != alt);
+    renumber(&mut members, name);
+    members
+}

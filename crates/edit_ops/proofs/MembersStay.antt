@@ -1,18 +1,16 @@
 -- What a project's type keeps stays where the members of one class change.
-use Rattle.std.proofs.Common.{◌≡◌, ℕ, zero, suc, ◌+◌, ◌≤◌, Bool, true, false, not, ◌&&◌, List, [], ◌∷◌, length, map, filter, nat_le, Option, Some, None, slice_get, slice_set, refl, sym, ◌∙◌, ap, arith}
+use Rattle.std.proofs.Common.{◌≡◌, ℕ, zero, suc, ◌+◌, ◌≤◌, Bool, true, false, not, ◌&&◌, List, [], ◌∷◌, length, map, filter, nat_le, Some, slice_get, slice_set, refl, sym, ◌∙◌, ap, arith}
 use Rattle.std.specs.List.{list_all, sum_by}
-use Rattle.std.specs.Option.{option_map_or}
 use Rattle.std.proofs.lemmas.Bool.{and_parts, and_from, le-leb, leb-true}
 use Rattle.std.proofs.lemmas.List.{length-set}
 use Rattle.cfj_model.specs.Coloring.{Palette, palette_of}
-use Rattle.cfj_model.specs.LookUps.{Table, declared}
+use Rattle.cfj_model.specs.LookUps.{Table}
 use Rattle.cfj_model.specs.Members.{alts_rise}
 use Rattle.cfj_model.specs.ProductLines.{ProductLine, IsProject, are_fields, are_methods, are_distinct, class_size, is_class, is_ctor, is_field, is_method, method_size, most_classes, most_fields, most_methods, most_size, size}
 use Rattle.cfj_model.specs.declared.class.Class.{Class}
 use Rattle.cfj_model.specs.declared.class.Field.{Field}
 use Rattle.cfj_model.specs.declared.class.Method.{Method}
 use Rattle.cfj_words.specs.Names.{is_short_identifier}
-use Rattle.edit_ops.specs.Named.{is_class as is_there}
 use Rattle.edit_ops.specs.Members.{Kind, fields, field_removed, is_member, method_removed, methods, removed, renumbered}
 use Rattle.edit_ops.proofs.Changing.{all_five, five, head_fits, size_set}
 use Rattle.edit_ops.proofs.Renumbering.{IsKind, by_count, fewer_rise, fields_are, from_each, methods_are, names_and_alts, numbered_all, numbered_length, numbered_sum, renumbered_rises, to_each}
@@ -182,11 +180,3 @@ module _ (line : ProductLine) (place : ℕ) (k : Class) (is : IsProject line) (a
       let less = removed_less methods methods_are m alt k.methods method_size (λ d n. refl) in
       set_stays line place k (method_removed m alt k) is at refl (with_methods_fine palette k (removed methods m alt k.methods) fine_class fine)
       (smaller_fits line place k (method_removed m alt k) is at (omega (arith, less)))
-
--- a class that is there, and so, is there
-pub class_there : (p : Table) (c : List ℕ) (test : Class → Bool) → is_there p c test ≡ true → is_there p c (λ k. true) ≡ true
-class_there p c test = by (declared p c)
-  where
-    by : (o : Option Class) → option_map_or test o false ≡ true → option_map_or (λ k. true) o false ≡ true
-    by None h = h
-    by (Some k) h = refl

@@ -66,13 +66,20 @@ fn renumber<M: Numbered>(members: &mut [M], name: &Name)
     }
 }
 
+/// Whether a member has this name and alt.
+fn is_member<M: Numbered>(member: &M, name: &Name, alt: u16) -> bool
+    ensures { result ≡ spec.is_member M.kind name.now alt member.now }
+{
+    member.name() == name && member.alt() == alt
+}
+
 /// These members without the one of this name and alt, those of its name numbered anew.
 pub(crate) fn without<M: Numbered>(members: Vec<M>, name: &Name, alt: u16) -> Vec<M>
     requires { length members.items < 65536 }
     ensures { result.items ≡ spec.removed M.kind name.now alt members.items }
 {
     let mut members = members;
-    members.retain(|member| member.name() != name || member.alt() != alt);
+    members.retain(|member| !is_member(member, name, alt));
     renumber(&mut members, name);
     members
 }

@@ -7,8 +7,6 @@ use Rattle.std.proofs.lemmas.List.Elements.{filter-append}
 use Rattle.std.proofs.lemmas.List.Sums.{sum_by-cons}
 use Rattle.std.proofs.lemmas.Slice.Eq.{bytes_eq-Decides}
 use Rattle.cfj_model.specs.Members.{alts_rise, namesakes, placed_behind}
-use Rattle.cfj_model.specs.declared.class.Field.{Field}
-use Rattle.cfj_model.specs.declared.class.Method.{Method}
 use Rattle.edit_ops.specs.Members.{Kind, fields, methods, renumbered}
 
 -- a name equals itself

@@ -1,9 +1,8 @@
--- What edits make of the members of a class, and what refuses them.
-use Rattle.std.specs.Prelude.{◌≡◌, ℕ, Bool, true, false, not, ◌&&◌, ◌==◌, nat_lt, List, [], ◌∷◌, ◌++◌, length, map, filter, slice_set, if◌then◌else◌, Option, Some, None}
-use Rattle.std.specs.List.{position_or_len}
+-- What edits make of the members of a class.
+use Rattle.std.specs.Prelude.{ℕ, Bool, not, ◌&&◌, ◌==◌, List, map, filter, if◌then◌else◌}
 use Rattle.std.specs.Str.{bytes_eq}
 use Rattle.cfj_model.specs.Members.{field_name_of, method_name_of, namesakes, placed}
-use Rattle.cfj_model.specs.ProductLines.{ProductLine, most_fields, most_methods}
+use Rattle.cfj_model.specs.ProductLines.{ProductLine}
 use Rattle.cfj_model.specs.declared.class.Class.{Class}
 use Rattle.cfj_model.specs.declared.class.Field.{Field}
 use Rattle.cfj_model.specs.declared.class.Method.{Method}
@@ -30,7 +29,10 @@ module _ {A : Type 0} (kind : Kind A) where
 
   -- the alt of each member of this name is the number of those before it; the others stay
   abbrev pub renumbered : List ℕ → List A → List A
-  renumbered n xs = map (λ p. if bytes_eq (kind.name_of p.item) n then kind.with_alt p.item (namesakes kind.name_of p) else p.item) (placed xs)
+  renumbered n xs =
+      map
+      (λ p. if bytes_eq (kind.name_of p.item) n then kind.with_alt p.item (namesakes kind.name_of p) else p.item)
+      (placed xs)
 
   -- the member of this name and alt goes
   abbrev pub removed : List ℕ → ℕ → List A → List A

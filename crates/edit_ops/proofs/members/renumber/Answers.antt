@@ -1,4 +1,4 @@
-use Rattle.std.proofs.Common.{◌≡◌, ◌+◌, ◌<◌, ◌≤◌, length, get_or, set, suc, true, false, sym, ◌∙◌, ap, arith, add-one}
+use Rattle.std.proofs.Common.{◌≡◌, ◌+◌, ◌<◌, ◌≤◌, length, get_or, set, suc, sym, ◌∙◌, ap, arith, add-one}
 use Rattle.std.proofs.lemmas.List.{set-get_or}
 use Rattle.std.specs.Str.{bytes_eq}
 use Rattle.edit_ops.proofs.Renumbering.{by_count, rest_named, rest_none, rest_numbered, rest_other}

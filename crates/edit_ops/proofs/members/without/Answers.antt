@@ -1,4 +1,4 @@
-use Rattle.std.proofs.Common.{◌≡◌, ◌++◌, not, length, take, drop, filter, sym, ◌∙◌, ap, arith, rules}
+use Rattle.std.proofs.Common.{◌≡◌, ◌++◌, not, length, take, drop, filter, ◌∙◌, ap, arith, rules}
 use Rattle.std.proofs.Math.Seq.{take-append_seam}
 use Rattle.std.proofs.lemmas.Fn.{filter_same}
 use Rattle.edit_ops.specs.Members.{is_member, renumbered}

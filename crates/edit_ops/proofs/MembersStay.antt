@@ -1,8 +1,10 @@
 -- What a project's type keeps stays where the members of one class change.
-use Rattle.std.proofs.Common.{◌≡◌, ℕ, zero, suc, ◌≤◌, Bool, true, not, ◌&&◌, List, [], ◌∷◌, length, map, filter, nat_le, Some, slice_get, slice_set, refl, sym, ◌∙◌, ap, arith}
+use Rattle.std.proofs.Common.{◌≡◌, ℕ, zero, suc, ◌+◌, ◌<◌, ◌≤◌, Bool, true, not, ◌&&◌, List, [], ◌∷◌, ◌++◌, length, map, filter, nat_le, Some, slice_get, slice_set, refl, sym, ◌∙◌, ap, arith}
 use Rattle.std.specs.List.{list_all, sum_by}
 use Rattle.std.proofs.lemmas.Bool.{and_parts, and_from, le-leb, leb-true}
-use Rattle.std.proofs.lemmas.List.{length-set}
+use Rattle.std.proofs.lemmas.List.{length-append, length-set}
+use Rattle.std.proofs.lemmas.List.Folds.{list_all-append}
+use Rattle.std.proofs.lemmas.List.Sums.{sum_by-append, sum_by-cons}
 use Rattle.cfj_model.specs.Coloring.{Palette, palette_of}
 use Rattle.cfj_model.specs.LookUps.{Table}
 use Rattle.cfj_model.specs.Members.{alts_rise}
@@ -11,9 +13,9 @@ use Rattle.cfj_model.specs.declared.class.Class.{Class}
 use Rattle.cfj_model.specs.declared.class.Field.{Field}
 use Rattle.cfj_model.specs.declared.class.Method.{Method}
 use Rattle.cfj_words.specs.Names.{is_short_identifier}
-use Rattle.edit_ops.specs.Members.{Kind, fields, field_removed, is_member, method_removed, methods, removed, renumbered}
+use Rattle.edit_ops.specs.Members.{Kind, added, field_added, method_added, fields, field_removed, is_member, method_removed, methods, removed, renumbered}
 use Rattle.edit_ops.proofs.Changing.{all_five, five, head_fits, size_set}
-use Rattle.edit_ops.proofs.Renumbering.{IsKind, by_count, fewer_rise, fields_are, from_each, methods_are, names_and_alts, numbered_all, numbered_length, numbered_sum, renumbered_rises, to_each}
+use Rattle.edit_ops.proofs.Renumbering.{IsKind, by_count, fewer_rise, fields_are, from_each, methods_are, more_rise, names_and_alts, numbered_all, numbered_length, numbered_sum, renumbered_rises, to_each}
 use Rattle.edit_ops.proofs.Stays.{all_kept, fewer_kept, less_kept}
 
 -- ---- one class is another of its name
@@ -152,6 +154,32 @@ module _ {A : Type 0} (kind : Kind A) (is : IsKind kind) where
           all = renumbered_all test alike n left ∙ all_kept keeps test xs had.all;
         })
 
+  module _ (x : A) (xs : List A) where
+    added_length : length (added kind x xs) ≡ length xs + 1
+    added_length = renumbered_length (kind.name_of x) (xs ++ x ∷ []) ∙ length-append xs (x ∷ [])
+
+    added_sum : (f : A → ℕ) → ((y : A) (m : ℕ) → f (kind.with_alt y m) ≡ f y) → sum_by f (added kind x xs) ≡ sum_by f xs + f x
+    added_sum f alike =
+        let all = renumbered_sum f alike (kind.name_of x) (xs ++ x ∷ []) in
+        let parts = sum_by-append f xs (x ∷ []) in
+        let one = sum_by-cons f x [] in
+        omega (arith, all, parts, one)
+
+    added_fine : (most : ℕ) (test : A → Bool) → IsAlike test → are_members most test xs ≡ true → length xs < most → test x ≡ true → are_members most test (added kind x xs) ≡ true
+    added_fine most test alike fine room own =
+        let had = members most test xs fine in
+        all_members most test (added kind x xs)
+        (record {
+          few = omega (arith, room, added_length);
+          rise =
+              from_each kind (added kind x xs)
+              (λ w. renumbered_rises kind is (kind.name_of x) w (xs ++ x ∷ []) (λ other. more_rise kind w xs x other (to_each kind xs had.rise w)));
+          all =
+              renumbered_all test alike (kind.name_of x) (xs ++ x ∷ [])
+              ∙ list_all-append test xs (x ∷ [])
+              ∙ and_from (list_all test xs) (test x && true) had.all (and_from (test x) true own refl);
+        })
+
 -- ---- a member goes
 
 module _ (line : ProductLine) (place : ℕ) (k : Class) (is : IsProject line) (at : slice_get line.classes place ≡ Some k) where
@@ -180,3 +208,19 @@ module _ (line : ProductLine) (place : ℕ) (k : Class) (is : IsProject line) (a
       let less = removed_less methods methods_are m alt k.methods method_size (λ d n. refl) in
       set_stays line place k (method_removed m alt k) is at refl (with_methods_fine palette k (removed methods m alt k.methods) fine_class fine)
       (smaller_fits line place k (method_removed m alt k) is at (omega (arith, less)))
+
+  -- ---- one more member
+
+  pub field_added_stays : (d : Field) → is_field (palette_of line.model) d ≡ true → length k.fields < most_fields
+      → nat_le (size (slice_set line.classes place (field_added d k))) most_size ≡ true → IsProject (record line { classes = slice_set line.classes place (field_added d k) })
+  field_added_stays d own room fits =
+      let palette = palette_of line.model in
+      let fine = added_fine fields fields_are d k.fields most_fields (is_field palette) (λ x n. refl) (fields_fine palette k fine_class) room own in
+      set_stays line place k (field_added d k) is at refl (with_fields_fine palette k (added fields d k.fields) fine_class fine) fits
+
+  pub method_added_stays : (m : Method) → is_method (palette_of line.model) m ≡ true → length k.methods < most_methods
+      → nat_le (size (slice_set line.classes place (method_added m k))) most_size ≡ true → IsProject (record line { classes = slice_set line.classes place (method_added m k) })
+  method_added_stays m own room fits =
+      let palette = palette_of line.model in
+      let fine = added_fine methods methods_are m k.methods most_methods (is_method palette) (method_alike palette) (methods_fine palette k fine_class) room own in
+      set_stays line place k (method_added m k) is at refl (with_methods_fine palette k (added methods m k.methods) fine_class fine) fits

@@ -285,3 +285,12 @@ module _ {A : Type 0} (kind : Kind A) where
       by rest true false e h = ap (λ b. rise (cond b (kind.alt_of x ∷ alts_of w (filter keeps xs)) (alts_of w (filter keeps xs)))) e ∙ rest h
       by rest false true e h = rest (and_parts (list_all (nat_lt (kind.alt_of x)) (alts_of w xs)) (rise (alts_of w xs)) h).1
       by rest false false e h = rest h
+
+  -- ---- one more member
+
+  pub more_rise : (w : List ℕ) (xs : List A) (x : A) → bytes_eq (kind.name_of x) w ≡ false → Rises w xs → Rises w (xs ++ x ∷ [])
+  more_rise w xs x other rises = ap rise (same xs) ∙ rises
+    where
+      same : (ys : List A) → alts_of w (ys ++ x ∷ []) ≡ alts_of w ys
+      same [] = ap (λ b. cond b (kind.alt_of x ∷ []) []) other
+      same (y ∷ ys) = ap (λ more. cond (bytes_eq (kind.name_of y) w) (kind.alt_of y ∷ more) more) (same ys)

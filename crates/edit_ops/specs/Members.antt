@@ -1,14 +1,21 @@
--- What edits make of the members of a class.
-use Rattle.std.specs.Prelude.{ℕ, Bool, not, ◌&&◌, ◌==◌, List, map, filter, if◌then◌else◌}
+-- What edits make of the members of a class, and what refuses them.
+use Rattle.std.specs.Prelude.{ℕ, Bool, not, ◌&&◌, ◌==◌, nat_lt, List, [], ◌∷◌, ◌++◌, length, map, filter, if◌then◌else◌, Option, Some}
 use Rattle.std.specs.Str.{bytes_eq}
 use Rattle.cfj_model.specs.Members.{field_name_of, method_name_of, namesakes, placed}
-use Rattle.cfj_model.specs.ProductLines.{ProductLine}
+use Rattle.cfj_model.specs.Coloring.{Palette}
+use Rattle.cfj_model.specs.ProductLines.{ProductLine, is_field, is_method, most_fields, most_methods}
 use Rattle.cfj_model.specs.declared.class.Class.{Class}
 use Rattle.cfj_model.specs.declared.class.Field.{Field}
 use Rattle.cfj_model.specs.declared.class.Method.{Method}
+use Rattle.cfj_model.specs.declared.fault.LimitKind.TheVariants as limit
+use Rattle.cfj_model.specs.declared.member.Member.{Member}
+use Rattle.cfj_model.specs.declared.member.Member.TheVariants as member
 use Rattle.cfj_model.specs.declared.member_name.MemberName.{MemberName}
 use Rattle.cfj_model.specs.declared.member_name.MemberName.TheVariants as named
-use Rattle.edit_ops.specs.Changes.{changed}
+use Rattle.edit_ops.specs.Changes.{changed, size_refused}
+use Rattle.edit_ops.specs.Named.{is_class}
+use Rattle.edit_ops.specs.declared.refused.EditRefused.{EditRefused}
+use Rattle.edit_ops.specs.declared.refused.EditRefused.TheVariants.{Limit}
 
 -- a kind of member: its name, its alt, and the same member with another alt
 pub record Kind (A : Type 0) : Type 0 where
@@ -38,6 +45,15 @@ module _ {A : Type 0} (kind : Kind A) where
   abbrev pub removed : List ℕ → ℕ → List A → List A
   removed n alt xs = renumbered n (filter (λ x. not (is_member n alt x)) xs)
 
+  -- one more becomes the last
+  abbrev pub added : A → List A → List A
+  added x xs = renumbered (kind.name_of x) (xs ++ x ∷ [])
+
+-- what a project keeps of a member by itself
+abbrev pub is_piece : Palette → Member → Bool
+is_piece palette (member.Field d) = is_field palette d
+is_piece palette (member.Method m) = is_method palette m
+
 -- the field of this name and alt goes
 abbrev pub field_removed : List ℕ → ℕ → Class → Class
 field_removed f alt k = record k { fields = removed fields f alt k.fields }
@@ -50,3 +66,27 @@ method_removed m alt k = record k { methods = removed methods m alt k.methods }
 abbrev pub member_removed : MemberName → ProductLine → ProductLine
 member_removed (named.Field c f alt) line = record line { classes = changed c (field_removed f alt) line.classes }
 member_removed (named.Method c m alt) line = record line { classes = changed c (method_removed m alt) line.classes }
+
+-- the field becomes the last
+abbrev pub field_added : Field → Class → Class
+field_added d k = record k { fields = added fields d k.fields }
+
+-- the method becomes the last
+abbrev pub method_added : Method → Class → Class
+method_added m k = record k { methods = added methods m k.methods }
+
+-- a member becomes the last of its kind in the class of this name, and those of its name are numbered anew
+abbrev pub member_added : List ℕ → Member → ProductLine → ProductLine
+member_added c (member.Field d) line = record line { classes = changed c (field_added d) line.classes }
+member_added c (member.Method m) line = record line { classes = changed c (method_added m) line.classes }
+
+-- One more member is refused where its class has as many of its kind as it may have, then by the size.
+abbrev pub add_refused : List ℕ → Member → ProductLine → Option EditRefused
+add_refused c (member.Field d) line =
+    if is_class line.classes c (λ k. nat_lt (length k.fields) most_fields)
+    then size_refused (member_added c (member.Field d) line)
+    else Some (Limit limit.Fields)
+add_refused c (member.Method m) line =
+    if is_class line.classes c (λ k. nat_lt (length k.methods) most_methods)
+    then size_refused (member_added c (member.Method m) line)
+    else Some (Limit limit.Methods)

@@ -121,6 +121,30 @@ fn fits(project: &Project, place: usize, class: &Class) -> bool
     others.saturating_add(class.size()) <= MOST_SIZE
 }
 
+/// The project with this class at a place.
+///
+/// # Errors
+///
+/// The project would be too large, or there is no memory.
+pub(crate) fn with_fitting(
+    alloc: Global,
+    project: &Project,
+    place: usize,
+    class: Class,
+) -> Result<Project, EditRefused>
+    requires within { place < length project.now.classes }
+    requires kept { nat_le (size (slice_set project.now.classes place class)) most_size ≡ true → IsProject (record project.now { classes = slice_set project.now.classes place class }) }
+    ensures set { IfOk result (λ new. new ≡ record project.now { classes = slice_set project.now.classes place class }) }
+    ensures fine { OnOk result (spec.size_refused (record project.now { classes = slice_set project.now.classes place class }) ≡ None) }
+    ensures refused { (why : EditRefused) → result ≡ Err why → (why ≡ EditRefused.NoMemory) ⊎ (spec.size_refused (record project.now { classes = slice_set project.now.classes place class }) ≡ Some why) }
+{
+    if !fits(project, place, &class) {
+        mem::drop(class);
+        return Err(EditRefused::Limit(LimitKind::Size));
+    }
+    Ok(project.with_class(alloc, place, class)?)
+}
+
 /// The project in which the class of this name, which it has, has another constructor.
 ///
 /// # Errors

@@ -1,16 +1,24 @@
 //! Edits of members.
 
-ghost use Rattle.std.specs.Prelude.{◌≡◌, ◌≤◌, true, IfOk, length};
-ghost use Rattle.cfj_model.specs.ProductLines.{most_fields, most_methods};
+ghost use Rattle.std.specs.Prelude.{◌≡◌, ◌<◌, ◌≤◌, ◌⊎◌, true, None, Some, Err, IfOk, OnOk, length};
+ghost use Rattle.cfj_model.specs.Coloring.{palette_of};
+ghost use Rattle.cfj_model.specs.ProductLines.{is_field, is_method, most_fields, most_methods};
 ghost use Rattle.cfj_model.specs.Sites.{member_site};
+ghost use Rattle.cfj_model.specs.declared.member.Member.TheVariants as piece;
+ghost use Rattle.cfj_model.specs.declared.site.Site.TheVariants as site;
 ghost use Rattle.cfj_model.specs.declared.member_name.MemberName.TheVariants as named;
 ghost use Rattle.edit_ops.specs.Members as spec;
 ghost use Rattle.edit_ops.specs.Named.{has_site};
 
-use crate::classes::place_of;
-use crate::members::without;
-use cfj_model::{Class, Items, MemberName, Name, Project};
+use crate::classes::{place_of, with_fitting};
+use crate::members::{with_one, without};
+use crate::refused::EditRefused;
+use cfj_model::{
+    Class, Field, Items, LimitKind, MOST_FIELDS, MOST_METHODS, Member, MemberName, Method, Name,
+    Project,
+};
 use std::alloc::{AllocError, Global};
+use std::mem;
 
 /// The project without this member, which it has; the members of its name are numbered anew.
 ///
@@ -107,4 +115,118 @@ fn without_method(class: Class, method: &Name, alt: u16) -> Class
         ctor,
         methods: Items::of(without(methods.into_list(), method, alt)),
     }
+}
+
+/// The project in which the class of this name, which it has, has one more member, the last of its kind; the members of its name are
+/// numbered anew.
+///
+/// # Errors
+///
+/// The class has 64 fields, or 256 methods; the project would be too large; or there is no memory. It is refused by the first of these.
+pub fn add_member(
+    alloc: Global,
+    project: &Project,
+    class: &Name,
+    member: Member,
+) -> Result<Project, EditRefused>
+    requires there { has_site project.now.classes (site.Class class.now) ≡ true }
+    requires kept { spec.is_piece (palette_of project.now.model) member ≡ true }
+    ensures added { IfOk result (λ new. new ≡ spec.member_added class.now member project.now) }
+    ensures fine { OnOk result (spec.add_refused class.now member project.now ≡ None) }
+    ensures refused { (why : EditRefused) → result ≡ Err why → (why ≡ EditRefused.NoMemory) ⊎ (spec.add_refused class.now member project.now ≡ Some why) }
+{
+    match member {
+        Member::Field(field) => add_field(alloc, project, class, field),
+        Member::Method(method) => add_method(alloc, project, class, method),
+    }
+}
+
+fn add_field(
+    alloc: Global,
+    project: &Project,
+    class: &Name,
+    field: Field,
+) -> Result<Project, EditRefused>
+    requires there { has_site project.now.classes (site.Class class.now) ≡ true }
+    requires kept { is_field (palette_of project.now.model) field ≡ true }
+    ensures added { IfOk result (λ new. new ≡ spec.member_added class.now (piece.Field field) project.now) }
+    ensures fine { OnOk result (spec.add_refused class.now (piece.Field field) project.now ≡ None) }
+    ensures refused { (why : EditRefused) → result ≡ Err why → (why ≡ EditRefused.NoMemory) ⊎ (spec.add_refused class.now (piece.Field field) project.now ≡ Some why) }
+{
+    let place = place_of(project, class);
+    if project.class(place).fields.slice().len() >= MOST_FIELDS {
+        mem::drop(field);
+        return Err(EditRefused::Limit(LimitKind::Fields));
+    }
+    let changed = with_field(alloc, project.class(place).copy(alloc)?, field)?;
+    with_fitting(alloc, project, place, changed)
+}
+
+/// A class with one more field, the last.
+fn with_field(alloc: Global, class: Class, field: Field) -> Result<Class, AllocError>
+    requires { length class.fields < most_fields }
+    ensures { IfOk result (λ new. new ≡ spec.field_added field class) }
+{
+    let Class {
+        name,
+        colors,
+        parent,
+        fields,
+        ctor,
+        methods,
+    } = class;
+    let fields = with_one(alloc, fields.into_list(), field)?;
+    Ok(Class {
+        name,
+        colors,
+        parent,
+        fields: Items::of(fields),
+        ctor,
+        methods,
+    })
+}
+
+fn add_method(
+    alloc: Global,
+    project: &Project,
+    class: &Name,
+    method: Method,
+) -> Result<Project, EditRefused>
+    requires there { has_site project.now.classes (site.Class class.now) ≡ true }
+    requires kept { is_method (palette_of project.now.model) method ≡ true }
+    ensures added { IfOk result (λ new. new ≡ spec.member_added class.now (piece.Method method) project.now) }
+    ensures fine { OnOk result (spec.add_refused class.now (piece.Method method) project.now ≡ None) }
+    ensures refused { (why : EditRefused) → result ≡ Err why → (why ≡ EditRefused.NoMemory) ⊎ (spec.add_refused class.now (piece.Method method) project.now ≡ Some why) }
+{
+    let place = place_of(project, class);
+    if project.class(place).methods.slice().len() >= MOST_METHODS {
+        mem::drop(method);
+        return Err(EditRefused::Limit(LimitKind::Methods));
+    }
+    let changed = with_method(alloc, project.class(place).copy(alloc)?, method)?;
+    with_fitting(alloc, project, place, changed)
+}
+
+/// A class with one more method, the last.
+fn with_method(alloc: Global, class: Class, method: Method) -> Result<Class, AllocError>
+    requires { length class.methods < most_methods }
+    ensures { IfOk result (λ new. new ≡ spec.method_added method class) }
+{
+    let Class {
+        name,
+        colors,
+        parent,
+        fields,
+        ctor,
+        methods,
+    } = class;
+    let methods = with_one(alloc, methods.into_list(), method)?;
+    Ok(Class {
+        name,
+        colors,
+        parent,
+        fields,
+        ctor,
+        methods: Items::of(methods),
+    })
 }

@@ -1,10 +1,11 @@
 //! Members of a class as fields and methods have them in common.
 
-ghost use Rattle.std.specs.Prelude.{◌≡◌, ◌<◌, length};
+ghost use Rattle.std.specs.Prelude.{◌≡◌, ◌+◌, ◌<◌, IfOk, length};
 ghost use Rattle.edit_ops.specs.Members as spec;
 ghost use Rattle.edit_ops.specs.Members.{Kind};
 
 use cfj_model::{Field, Method, Name};
+use std::alloc::{AllocError, Global};
 
 /// A member of a class, which its alt tells apart from those of its name.
 pub(crate) trait Numbered: Drop {
@@ -82,4 +83,20 @@ pub(crate) fn without<M: Numbered>(members: Vec<M>, name: &Name, alt: u16) -> Ve
     members.retain(|member| !is_member(member, name, alt));
     renumber(&mut members, name);
     members
+}
+
+/// These members and one more, the last, those of its name numbered anew.
+pub(crate) fn with_one<M: Numbered>(
+    alloc: Global,
+    members: Vec<M>,
+    member: M,
+) -> Result<Vec<M>, AllocError>
+    requires { length members.items + 1 < 65536 }
+    ensures { IfOk result (λ all. all.items ≡ spec.added M.kind member members.items) }
+{
+    let name = member.name().copy(alloc)?;
+    let mut members = members;
+    members.push(member)?;
+    renumber(&mut members, &name);
+    Ok(members)
 }

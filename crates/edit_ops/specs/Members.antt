@@ -1,5 +1,6 @@
 -- What edits make of the members of a class, and what refuses them.
-use Rattle.std.specs.Prelude.{ℕ, Bool, not, ◌&&◌, ◌==◌, nat_lt, List, [], ◌∷◌, ◌++◌, length, map, filter, if◌then◌else◌, Option, Some}
+use Rattle.std.specs.Prelude.{ℕ, Bool, not, ◌&&◌, ◌==◌, nat_lt, if◌then◌else◌, Option, Some}
+use Rattle.std.specs.Prelude.{List, [], ◌∷◌, ◌++◌, length, map, filter}
 use Rattle.std.specs.Str.{bytes_eq}
 use Rattle.cfj_model.specs.Members.{field_name_of, method_name_of, namesakes, placed}
 use Rattle.cfj_model.specs.Coloring.{Palette}

@@ -164,9 +164,5 @@ pub fn set_constructor(
 {
     let place = place_of(project, class);
     let changed = with_ctor(project.class(place).copy(alloc)?, ctor);
-    if !fits(project, place, &changed) {
-        mem::drop(changed);
-        return Err(EditRefused::Limit(LimitKind::Size));
-    }
-    Ok(project.with_class(alloc, place, changed)?)
+    with_fitting(alloc, project, place, changed)
 }

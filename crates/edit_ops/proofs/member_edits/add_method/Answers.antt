@@ -5,7 +5,7 @@ use Rattle.cfj_model.specs.declared.class.Class.{Class}
 use Rattle.cfj_model.specs.declared.fault.LimitKind.TheVariants as limit
 use Rattle.cfj_model.specs.declared.member.Member.TheVariants as member
 use Rattle.edit_ops.specs.Changes.{size_refused}
-use Rattle.edit_ops.specs.Members.{add_refused, method_added, member_added}
+use Rattle.edit_ops.specs.Members.{method_added, member_added}
 use Rattle.edit_ops.specs.declared.refused.EditRefused.{EditRefused}
 use Rattle.edit_ops.specs.declared.refused.EditRefused.TheVariants.{Limit, NoMemory}
 use Rattle.edit_ops.proofs.Adding.{method_full, method_room}

@@ -1,6 +1,6 @@
 -- What a project's type keeps stays where the members of one class change.
 use Rattle.std.proofs.Common.{◌≡◌, ℕ, zero, suc, ◌+◌, ◌<◌, ◌≤◌, Bool, true, not, ◌&&◌, List, [], ◌∷◌, ◌++◌, length, map, filter, nat_le, Some, slice_get, slice_set, refl, sym, ◌∙◌, ap, arith}
-use Rattle.std.specs.List.{list_all, sum_by}
+use Rattle.std.specs.List.{list_all, position_or_len, sum_by}
 use Rattle.std.proofs.lemmas.Bool.{and_parts, and_from, le-leb, leb-true}
 use Rattle.std.proofs.lemmas.List.{length-append, length-set}
 use Rattle.std.proofs.lemmas.List.Folds.{list_all-append}
@@ -13,9 +13,9 @@ use Rattle.cfj_model.specs.declared.class.Class.{Class}
 use Rattle.cfj_model.specs.declared.class.Field.{Field}
 use Rattle.cfj_model.specs.declared.class.Method.{Method}
 use Rattle.cfj_words.specs.Names.{is_short_identifier}
-use Rattle.edit_ops.specs.Members.{Kind, added, field_added, method_added, fields, field_removed, is_member, method_removed, methods, removed, renumbered}
+use Rattle.edit_ops.specs.Members.{Kind, field_replaced, method_replaced, replaced, added, field_added, method_added, fields, field_removed, is_member, method_removed, methods, removed, renumbered}
 use Rattle.edit_ops.proofs.Changing.{all_five, five, head_fits, size_set}
-use Rattle.edit_ops.proofs.Renumbering.{IsKind, by_count, fewer_rise, fields_are, from_each, methods_are, more_rise, names_and_alts, numbered_all, numbered_length, numbered_sum, renumbered_rises, to_each}
+use Rattle.edit_ops.proofs.Renumbering.{IsKind, other_alts, rises_alike, by_count, fewer_rise, fields_are, from_each, methods_are, more_rise, names_and_alts, numbered_all, numbered_length, numbered_sum, renumbered_rises, to_each}
 use Rattle.edit_ops.proofs.Stays.{all_kept, fewer_kept, less_kept}
 
 -- ---- one class is another of its name
@@ -180,6 +180,28 @@ module _ {A : Type 0} (kind : Kind A) (is : IsKind kind) where
               ∙ and_from (list_all test xs) (test x && true) had.all (and_from (test x) true own refl);
         })
 
+  replaced_fine : (n : List ℕ) (alt : ℕ) (x : A) (xs : List A) (most : ℕ) (test : A → Bool) → IsAlike test → are_members most test xs ≡ true → test x ≡ true
+      → are_members most test (replaced kind n alt x xs) ≡ true
+  replaced_fine n alt x xs most test alike fine own =
+      let had = members most test xs fine in
+      let place = position_or_len (is_member kind n alt) xs in
+      let twice = renumbered_length (kind.name_of x) (renumbered kind n (slice_set xs place x)) in
+      let once = renumbered_length n (slice_set xs place x) in
+      let same = length-set xs place x in
+      all_members most test (replaced kind n alt x xs)
+      (record {
+        few = let few = had.few in omega (arith, few, twice, once, same);
+        rise =
+            from_each kind (replaced kind n alt x xs)
+            (λ w. renumbered_rises kind is (kind.name_of x) w (renumbered kind n (slice_set xs place x))
+            (λ other. renumbered_rises kind is n w (slice_set xs place x)
+            (λ apart. rises_alike kind w (slice_set xs place x) xs (other_alts kind w n alt x apart other xs place refl) (to_each kind xs had.rise w))));
+        all =
+            renumbered_all test alike (kind.name_of x) (renumbered kind n (slice_set xs place x))
+            ∙ renumbered_all test alike n (slice_set xs place x)
+            ∙ set_all test xs place x had.all own;
+      })
+
 -- ---- a member goes
 
 module _ (line : ProductLine) (place : ℕ) (k : Class) (is : IsProject line) (at : slice_get line.classes place ≡ Some k) where
@@ -224,3 +246,19 @@ module _ (line : ProductLine) (place : ℕ) (k : Class) (is : IsProject line) (a
       let palette = palette_of line.model in
       let fine = added_fine methods methods_are m k.methods most_methods (is_method palette) (method_alike palette) (methods_fine palette k fine_class) room own in
       set_stays line place k (method_added m k) is at refl (with_methods_fine palette k (added methods m k.methods) fine_class fine) fits
+
+  -- ---- another member
+
+  pub field_replaced_stays : (f : List ℕ) (alt : ℕ) (d : Field) → is_field (palette_of line.model) d ≡ true
+      → nat_le (size (slice_set line.classes place (field_replaced f alt d k))) most_size ≡ true → IsProject (record line { classes = slice_set line.classes place (field_replaced f alt d k) })
+  field_replaced_stays f alt d own fits =
+      let palette = palette_of line.model in
+      let fine = replaced_fine fields fields_are f alt d k.fields most_fields (is_field palette) (λ x n. refl) (fields_fine palette k fine_class) own in
+      set_stays line place k (field_replaced f alt d k) is at refl (with_fields_fine palette k (replaced fields f alt d k.fields) fine_class fine) fits
+
+  pub method_replaced_stays : (m : List ℕ) (alt : ℕ) (d : Method) → is_method (palette_of line.model) d ≡ true
+      → nat_le (size (slice_set line.classes place (method_replaced m alt d k))) most_size ≡ true → IsProject (record line { classes = slice_set line.classes place (method_replaced m alt d k) })
+  method_replaced_stays m alt d own fits =
+      let palette = palette_of line.model in
+      let fine = replaced_fine methods methods_are m alt d k.methods most_methods (is_method palette) (method_alike palette) (methods_fine palette k fine_class) own in
+      set_stays line place k (method_replaced m alt d k) is at refl (with_methods_fine palette k (replaced methods m alt d k.methods) fine_class fine) fits

@@ -1,13 +1,13 @@
 -- Members of one name are numbered anew: what stays, and that alts rise.
-use Rattle.std.proofs.Common.{◌≡◌, ℕ, zero, suc, ◌+◌, ◌<◌, ◌≤◌, Bool, true, false, not, cond, ◌&&◌, ◌||◌, List, [], ◌∷◌, ◌++◌, length, map, filter, get_or, nat_lt, set, refl, sym, ap, subst, ◌∙◌, length-append, arith}
-use Rattle.std.specs.List.{list_all, sum_by}
+use Rattle.std.proofs.Common.{◌≡◌, ℕ, zero, suc, ◌+◌, ◌<◌, ◌≤◌, Bool, true, false, not, cond, ◌&&◌, ◌||◌, ◌==◌, List, [], ◌∷◌, ◌++◌, length, map, filter, get_or, nat_lt, set, refl, sym, ap, subst, ◌∙◌, length-append, arith}
+use Rattle.std.specs.List.{list_all, position_or_len, sum_by}
 use Rattle.std.specs.Str.{bytes_eq}
 use Rattle.std.proofs.lemmas.Bool.{and_from, and_parts, lt-ltb}
 use Rattle.std.proofs.lemmas.List.Elements.{filter-append}
 use Rattle.std.proofs.lemmas.List.Sums.{sum_by-cons}
 use Rattle.std.proofs.lemmas.Slice.Eq.{bytes_eq-Decides}
 use Rattle.cfj_model.specs.Members.{alts_rise, namesakes, placed_behind}
-use Rattle.edit_ops.specs.Members.{Kind, fields, methods, renumbered}
+use Rattle.edit_ops.specs.Members.{Kind, is_member, fields, methods, renumbered}
 
 -- a name equals itself
 same_name : (w : List ℕ) → bytes_eq w w ≡ true
@@ -294,3 +294,26 @@ module _ {A : Type 0} (kind : Kind A) where
       same : (ys : List A) → alts_of w (ys ++ x ∷ []) ≡ alts_of w ys
       same [] = ap (λ b. cond b (kind.alt_of x ∷ []) []) other
       same (y ∷ ys) = ap (λ more. cond (bytes_eq (kind.name_of y) w) (kind.alt_of y ∷ more) more) (same ys)
+
+  -- ---- another member
+
+  pub other_alts : (w n : List ℕ) (alt : ℕ) (x : A) → bytes_eq n w ≡ false → bytes_eq (kind.name_of x) w ≡ false
+      → (xs : List A) (place : ℕ) → position_or_len (is_member kind n alt) xs ≡ place → alts_of w (set xs place x) ≡ alts_of w xs
+  other_alts w n alt x apart other [] place first = refl
+  other_alts w n alt x apart other (y ∷ ys) place first = by (other_alts w n alt x apart other ys) (is_member kind n alt y) refl place first
+    where
+      by : ((p : ℕ) → position_or_len (is_member kind n alt) ys ≡ p → alts_of w (set ys p x) ≡ alts_of w ys)
+          → (b : Bool) → is_member kind n alt y ≡ b → (p : ℕ) → cond (not b) (1 + position_or_len (is_member kind n alt) ys) 0 ≡ p
+          → alts_of w (set (y ∷ ys) p x) ≡ cond (bytes_eq (kind.name_of y) w) (kind.alt_of y ∷ alts_of w ys) (alts_of w ys)
+      by rest true e zero is =
+          let named : kind.name_of y ≡ n = (bytes_eq-Decides (kind.name_of y) n).0 (and_parts (bytes_eq (kind.name_of y) n) (kind.alt_of y == alt) e).0 in
+          ap (λ b. cond b (kind.alt_of x ∷ alts_of w ys) (alts_of w ys)) other
+          ∙ ap (λ b. cond b (kind.alt_of y ∷ alts_of w ys) (alts_of w ys)) (sym (ap (λ v. bytes_eq v w) named ∙ apart))
+      by rest true e (suc p) is = absurd (let no : ⊥ = omega (arith, is) in no)
+      by rest false e zero is = absurd (let no : ⊥ = omega (arith, is) in no)
+      by rest false e (suc p) is =
+          let behind : position_or_len (is_member kind n alt) ys ≡ p = omega (arith, is) in
+          ap (λ more. cond (bytes_eq (kind.name_of y) w) (kind.alt_of y ∷ more) more) (rest p behind)
+
+  pub rises_alike : (w : List ℕ) (xs ys : List A) → alts_of w xs ≡ alts_of w ys → Rises w ys → Rises w xs
+  rises_alike w xs ys same rises = ap rise same ∙ rises

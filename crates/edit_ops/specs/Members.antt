@@ -1,6 +1,7 @@
 -- What edits make of the members of a class, and what refuses them.
-use Rattle.std.specs.Prelude.{ℕ, Bool, not, ◌&&◌, ◌==◌, nat_lt, if◌then◌else◌, Option, Some}
-use Rattle.std.specs.Prelude.{List, [], ◌∷◌, ◌++◌, length, map, filter}
+use Rattle.std.specs.Prelude.{ℕ, Bool, true, false, not, ◌&&◌, ◌==◌, nat_lt, if◌then◌else◌, Option, Some}
+use Rattle.std.specs.Prelude.{List, [], ◌∷◌, ◌++◌, length, map, filter, slice_set}
+use Rattle.std.specs.List.{position_or_len}
 use Rattle.std.specs.Str.{bytes_eq}
 use Rattle.cfj_model.specs.Members.{field_name_of, method_name_of, namesakes, placed}
 use Rattle.cfj_model.specs.Coloring.{Palette}
@@ -50,6 +51,14 @@ module _ {A : Type 0} (kind : Kind A) where
   abbrev pub added : A → List A → List A
   added x xs = renumbered (kind.name_of x) (xs ++ x ∷ [])
 
+  -- in the place of the member of this name and alt
+  abbrev pub put : List ℕ → ℕ → A → List A → List A
+  put n alt x xs = slice_set xs (position_or_len (is_member n alt) xs) x
+
+  -- another stands in its place
+  abbrev pub replaced : List ℕ → ℕ → A → List A → List A
+  replaced n alt x xs = renumbered (kind.name_of x) (renumbered n (put n alt x xs))
+
 -- what a project keeps of a member by itself
 abbrev pub is_piece : Palette → Member → Bool
 is_piece palette (member.Field d) = is_field palette d
@@ -91,3 +100,27 @@ add_refused c (member.Method m) line =
     if is_class line.classes c (λ k. nat_lt (length k.methods) most_methods)
     then size_refused (member_added c (member.Method m) line)
     else Some (Limit limit.Methods)
+
+-- another field stands in the place of the one of this name and alt
+abbrev pub field_replaced : List ℕ → ℕ → Field → Class → Class
+field_replaced f alt d k = record k { fields = replaced fields f alt d k.fields }
+
+-- another method stands in the place of the one of this name and alt
+abbrev pub method_replaced : List ℕ → ℕ → Method → Class → Class
+method_replaced m alt d k = record k { methods = replaced methods m alt d k.methods }
+
+-- they are of one kind
+abbrev pub is_of_kind : MemberName → Member → Bool
+is_of_kind (named.Field c f alt) (member.Field d) = true
+is_of_kind (named.Method c m alt) (member.Method d) = true
+is_of_kind old new = false
+
+-- another member of its kind stands in the place of a member, and those of both names are numbered anew
+abbrev pub member_replaced : MemberName → Member → ProductLine → ProductLine
+member_replaced (named.Field c f alt) (member.Field d) line = record line { classes = changed c (field_replaced f alt d) line.classes }
+member_replaced (named.Method c m alt) (member.Method d) line = record line { classes = changed c (method_replaced m alt d) line.classes }
+member_replaced old new line = line
+
+-- another member is refused by the size alone
+abbrev pub replace_refused : MemberName → Member → ProductLine → Option EditRefused
+replace_refused old new line = size_refused (member_replaced old new line)

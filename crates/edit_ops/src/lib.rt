@@ -17,7 +17,7 @@ mod spot;
 
 pub use classes::{add_class, remove_class, set_constructor, set_super};
 pub use found::has_site;
-pub use member_edits::{add_member, remove_member};
+pub use member_edits::{add_member, remove_member, replace_member};
 pub use naming::{finds, named};
 pub use refused::EditRefused;
 pub use spot::Spot;

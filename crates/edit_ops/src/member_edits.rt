@@ -11,7 +11,7 @@ ghost use Rattle.edit_ops.specs.Members as spec;
 ghost use Rattle.edit_ops.specs.Named.{has_site};
 
 use crate::classes::{place_of, with_fitting};
-use crate::members::{with_one, without};
+use crate::members::{with_another, with_one, without};
 use crate::refused::EditRefused;
 use cfj_model::{
     Class, Field, Items, LimitKind, MOST_FIELDS, MOST_METHODS, Member, MemberName, Method, Name,
@@ -229,4 +229,132 @@ fn with_method(alloc: Global, class: Class, method: Method) -> Result<Class, All
         ctor,
         methods: Items::of(methods),
     })
+}
+
+fn replace_field(
+    alloc: Global,
+    project: &Project,
+    class: &Name,
+    field: &Name,
+    alt: u16,
+    new: Field,
+) -> Result<Project, EditRefused>
+    requires there { has_site project.now.classes (member_site (named.Field class.now field.now alt)) ≡ true }
+    requires kept { is_field (palette_of project.now.model) new ≡ true }
+    ensures replaced { IfOk result (λ p. p ≡ spec.member_replaced (named.Field class.now field.now alt) (piece.Field new) project.now) }
+    ensures fine { OnOk result (spec.replace_refused (named.Field class.now field.now alt) (piece.Field new) project.now ≡ None) }
+    ensures refused { (why : EditRefused) → result ≡ Err why → (why ≡ EditRefused.NoMemory) ⊎ (spec.replace_refused (named.Field class.now field.now alt) (piece.Field new) project.now ≡ Some why) }
+{
+    let place = place_of(project, class);
+    let changed = with_other_field(alloc, project.class(place).copy(alloc)?, field, alt, new)?;
+    with_fitting(alloc, project, place, changed)
+}
+
+/// A class with another field in the place of the one of this name and alt.
+fn with_other_field(
+    alloc: Global,
+    class: Class,
+    field: &Name,
+    alt: u16,
+    new: Field,
+) -> Result<Class, AllocError>
+    requires { length class.fields ≤ most_fields }
+    ensures { IfOk result (λ k. k ≡ spec.field_replaced field.now alt new class) }
+{
+    let Class {
+        name,
+        colors,
+        parent,
+        fields,
+        ctor,
+        methods,
+    } = class;
+    let fields = with_another(alloc, fields.into_list(), field, alt, new)?;
+    Ok(Class {
+        name,
+        colors,
+        parent,
+        fields: Items::of(fields),
+        ctor,
+        methods,
+    })
+}
+
+fn replace_method(
+    alloc: Global,
+    project: &Project,
+    class: &Name,
+    method: &Name,
+    alt: u16,
+    new: Method,
+) -> Result<Project, EditRefused>
+    requires there { has_site project.now.classes (member_site (named.Method class.now method.now alt)) ≡ true }
+    requires kept { is_method (palette_of project.now.model) new ≡ true }
+    ensures replaced { IfOk result (λ p. p ≡ spec.member_replaced (named.Method class.now method.now alt) (piece.Method new) project.now) }
+    ensures fine { OnOk result (spec.replace_refused (named.Method class.now method.now alt) (piece.Method new) project.now ≡ None) }
+    ensures refused { (why : EditRefused) → result ≡ Err why → (why ≡ EditRefused.NoMemory) ⊎ (spec.replace_refused (named.Method class.now method.now alt) (piece.Method new) project.now ≡ Some why) }
+{
+    let place = place_of(project, class);
+    let changed = with_other_method(alloc, project.class(place).copy(alloc)?, method, alt, new)?;
+    with_fitting(alloc, project, place, changed)
+}
+
+/// A class with another method in the place of the one of this name and alt.
+fn with_other_method(
+    alloc: Global,
+    class: Class,
+    method: &Name,
+    alt: u16,
+    new: Method,
+) -> Result<Class, AllocError>
+    requires { length class.methods ≤ most_methods }
+    ensures { IfOk result (λ k. k ≡ spec.method_replaced method.now alt new class) }
+{
+    let Class {
+        name,
+        colors,
+        parent,
+        fields,
+        ctor,
+        methods,
+    } = class;
+    let methods = with_another(alloc, methods.into_list(), method, alt, new)?;
+    Ok(Class {
+        name,
+        colors,
+        parent,
+        fields,
+        ctor,
+        methods: Items::of(methods),
+    })
+}
+
+/// The project in which another member of its kind stands in the place of a member that the project has; the members of both names are
+/// numbered anew.
+///
+/// # Errors
+///
+/// The project would be too large, or there is no memory.
+pub fn replace_member(
+    alloc: Global,
+    project: &Project,
+    member: &MemberName,
+    new: Member,
+) -> Result<Project, EditRefused>
+    requires there { has_site project.now.classes (member_site member.now) ≡ true }
+    requires kind { spec.is_of_kind member.now new ≡ true }
+    requires kept { spec.is_piece (palette_of project.now.model) new ≡ true }
+    ensures replaced { IfOk result (λ p. p ≡ spec.member_replaced member.now new project.now) }
+    ensures fine { OnOk result (spec.replace_refused member.now new project.now ≡ None) }
+    ensures refused { (why : EditRefused) → result ≡ Err why → (why ≡ EditRefused.NoMemory) ⊎ (spec.replace_refused member.now new project.now ≡ Some why) }
+{
+    match (member, new) {
+        (MemberName::Field(class, field, alt), Member::Field(new)) => {
+            replace_field(alloc, project, class, field, *alt, new)
+        }
+        (MemberName::Method(class, method, alt), Member::Method(new)) => {
+            replace_method(alloc, project, class, method, *alt, new)
+        }
+        _ => unreachable!(),
+    }
 }

@@ -117,8 +117,10 @@ is_of_kind old new = false
 
 -- another member of its kind stands in the place of a member, and those of both names are numbered anew
 abbrev pub member_replaced : MemberName → Member → ProductLine → ProductLine
-member_replaced (named.Field c f alt) (member.Field d) line = record line { classes = changed c (field_replaced f alt d) line.classes }
-member_replaced (named.Method c m alt) (member.Method d) line = record line { classes = changed c (method_replaced m alt d) line.classes }
+member_replaced (named.Field c f alt) (member.Field d) line =
+    record line { classes = changed c (field_replaced f alt d) line.classes }
+member_replaced (named.Method c m alt) (member.Method d) line =
+    record line { classes = changed c (method_replaced m alt d) line.classes }
 member_replaced old new line = line
 
 -- another member is refused by the size alone

@@ -1,5 +1,5 @@
-//! Edits of a project: what each of them names, where two of them meet, and what those of whole classes, and one member more or
-//! less, make of the project.
+//! Edits of a project: what each of them names, where two of them meet, and what those of whole classes and of members make of the
+//! project.
 //!
 //! `Edit` of `cfj_model` is what a session asks for. Whether it may be done is judged in an order: first whether the project has what the
 //! edit names, then whether another edit that came before changed the same spot, and at last what its text says. `specs/Named.antt` and

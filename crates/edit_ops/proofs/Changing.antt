@@ -109,7 +109,7 @@ pub record AllFive (a b c d e : Bool) : Type 0 where
   pub fourth : d ≡ true
   pub fifth : e ≡ true
 
-five : (a b c d e : Bool) → (a && b && c && d && e) ≡ true → AllFive a b c d e
+pub five : (a b c d e : Bool) → (a && b && c && d && e) ≡ true → AllFive a b c d e
 five a b c d e h =
     let last = and_parts (a && b && c && d) e h in
     let fourth = and_parts (a && b && c) d last.0 in
@@ -117,14 +117,14 @@ five a b c d e h =
     let front = and_parts a b third.0 in
     record { first = front.0; second = front.1; third = third.1; fourth = fourth.1; fifth = last.1 }
 
-all_five : (a b c d e : Bool) → AllFive a b c d e → (a && b && c && d && e) ≡ true
+pub all_five : (a b c d e : Bool) → AllFive a b c d e → (a && b && c && d && e) ≡ true
 all_five a b c d e h =
     and_from (a && b && c && d) e
     (and_from (a && b && c) d (and_from (a && b) c (and_from a b h.first h.second) h.third) h.fourth)
     h.fifth
 
 -- the name and the colours of a class
-abbrev head_fits : Palette → Class → Bool
+abbrev pub head_fits : Palette → Class → Bool
 head_fits palette k = is_short_identifier k.name && not (bytes_eq k.name object) && are_known palette k.colors
 
 parent_kept : (palette : Palette) (parent : List ℕ) → is_short_identifier parent ≡ true → (k : Class) → is_class palette k ≡ true → is_class palette (record k { parent = parent }) ≡ true

@@ -9,6 +9,20 @@ module _ {A : Type 0} (test : A → Bool) (xs : List A) where
   abbrev place : ℕ
   place = position_or_len test xs
 
+  pub first_place : (n : ℕ) → position test xs ≡ Some n → place ≡ n
+  first_place n is = by (nat_lt place (length xs)) is
+    where
+      by : (b : Bool) → cond b (Some place) None ≡ Some n → place ≡ n
+      by true here = cc here
+      by false here = absurd (cc here)
+
+  pub no_place : position test xs ≡ None → length xs ≤ place
+  no_place is = by (nat_lt place (length xs)) refl is
+    where
+      by : (b : Bool) → nat_lt place (length xs) ≡ b → cond b (Some place) None ≡ None → length xs ≤ place
+      by true past here = absurd (cc here)
+      by false past here = ltb-false place (length xs) past
+
   -- it stands at its place
   pub found_at : (n : ℕ) (x : A) → position test xs ≡ Some n → slice_get xs n ≡ Some x → Some x ≡ find test xs
   found_at n x is at = by (nat_lt place (length xs)) is

@@ -1,6 +1,6 @@
 -- What a project's type keeps stays where a class is added or goes.
 use Rattle.std.proofs.Common.{◌≡◌, ℕ, zero, suc, ◌+◌, ◌≤◌, Bool, true, false, not, ◌&&◌, ◌||◌, cond, List, [], ◌∷◌, ◌++◌, length, map, take, drop, filter, position, nat_lt, nat_le, is_some, Some, None, refl, sym, ◌∙◌, ap, arith, add-one}
-use Rattle.std.specs.List.{list_all, position_or_len}
+use Rattle.std.specs.List.{list_all, position_or_len, sum_by}
 use Rattle.std.specs.Str.{bytes_eq}
 use Rattle.std.proofs.lemmas.Bool.{and_parts, and_from, leb-true, le-leb, ltb-true}
 use Rattle.std.proofs.lemmas.Slice.Eq.{bytes_eq-Decides}
@@ -121,31 +121,32 @@ new_kept keeps (k ∷ p) fewer names less new =
         and_from (not (is_among fewer k.name)) (are_new (fewer ++ k.name ∷ []) (map (λ c. c.name) (filter keeps p))) (not_among (is_among fewer k.name) apart) with_it
     by apart with_it without_it false = without_it
 
-all_kept : (test keeps : Class → Bool) (p : Table) → list_all test p ≡ true → list_all test (filter keeps p) ≡ true
-all_kept test keeps [] all = refl
-all_kept test keeps (k ∷ p) all =
-    let parts = and_parts (test k) (list_all test p) all in
-    by parts.0 (all_kept test keeps p parts.1) (keeps k)
-  where
-    by : test k ≡ true → list_all test (filter keeps p) ≡ true → (b : Bool) → list_all test (cond b (k ∷ filter keeps p) (filter keeps p)) ≡ true
-    by here rest true = and_from (test k) (list_all test (filter keeps p)) here rest
-    by here rest false = rest
+module _ {A : Type 0} (keeps : A → Bool) where
+  pub all_kept : (test : A → Bool) (xs : List A) → list_all test xs ≡ true → list_all test (filter keeps xs) ≡ true
+  all_kept test [] all = refl
+  all_kept test (x ∷ xs) all =
+      let parts = and_parts (test x) (list_all test xs) all in
+      by parts.0 (all_kept test xs parts.1) (keeps x)
+    where
+      by : test x ≡ true → list_all test (filter keeps xs) ≡ true → (b : Bool) → list_all test (cond b (x ∷ filter keeps xs) (filter keeps xs)) ≡ true
+      by here rest true = and_from (test x) (list_all test (filter keeps xs)) here rest
+      by here rest false = rest
 
-fewer_kept : (keeps : Class → Bool) (p : Table) → length (filter keeps p) ≤ length p
-fewer_kept keeps [] = omega arith
-fewer_kept keeps (k ∷ p) = by (keeps k) (fewer_kept keeps p)
-  where
-    by : (b : Bool) → length (filter keeps p) ≤ length p → length (cond b (k ∷ filter keeps p) (filter keeps p)) ≤ suc (length p)
-    by true h = omega (arith, h)
-    by false h = omega (arith, h)
+  pub fewer_kept : (xs : List A) → length (filter keeps xs) ≤ length xs
+  fewer_kept [] = omega arith
+  fewer_kept (x ∷ xs) = by (keeps x) (fewer_kept xs)
+    where
+      by : (b : Bool) → length (filter keeps xs) ≤ length xs → length (cond b (x ∷ filter keeps xs) (filter keeps xs)) ≤ suc (length xs)
+      by true h = omega (arith, h)
+      by false h = omega (arith, h)
 
-smaller_kept : (keeps : Class → Bool) (p : Table) → size (filter keeps p) ≤ size p
-smaller_kept keeps [] = omega arith
-smaller_kept keeps (k ∷ p) = by (keeps k) (smaller_kept keeps p)
-  where
-    by : (b : Bool) → size (filter keeps p) ≤ size p → size (cond b (k ∷ filter keeps p) (filter keeps p)) ≤ size (k ∷ p)
-    by true h = let one = sum_by-cons class_size k (filter keeps p) in let all = sum_by-cons class_size k p in omega (arith, h, one, all)
-    by false h = let all = sum_by-cons class_size k p in omega (arith, h, all)
+  pub less_kept : (f : A → ℕ) (xs : List A) → sum_by f (filter keeps xs) ≤ sum_by f xs
+  less_kept f [] = omega arith
+  less_kept f (x ∷ xs) = by (keeps x) (less_kept f xs)
+    where
+      by : (b : Bool) → sum_by f (filter keeps xs) ≤ sum_by f xs → sum_by f (cond b (x ∷ filter keeps xs) (filter keeps xs)) ≤ sum_by f (x ∷ xs)
+      by true h = let one = sum_by-cons f x (filter keeps xs) in let all = sum_by-cons f x xs in omega (arith, h, one, all)
+      by false h = let all = sum_by-cons f x xs in omega (arith, h, all)
 
 pub removed_stays : (line : ProductLine) (c : List ℕ) → IsProject line → IsProject (class_removed c line)
 removed_stays line c is =
@@ -161,9 +162,9 @@ removed_stays line c is =
           let few = leb-true (length line.classes) most_classes is.few_classes in
           le-leb (length (filter keeps line.classes)) most_classes (omega (arith, fewer, few));
       classes_distinct = new_kept keeps line.classes [] [] same is.classes_distinct;
-      each_class = all_kept (is_class (palette_of line.model)) keeps line.classes is.each_class;
+      each_class = all_kept keeps (is_class (palette_of line.model)) line.classes is.each_class;
       fits =
-          let smaller = smaller_kept keeps line.classes in
+          let smaller = less_kept keeps class_size line.classes in
           let fits = leb-true (size line.classes) most_size is.fits in
           le-leb (size (filter keeps line.classes)) most_size (omega (arith, smaller, fits));
     }

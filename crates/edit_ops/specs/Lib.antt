@@ -1,3 +1,4 @@
 pub mod Changes
+pub mod Members
 pub mod Named
 pub mod Spots

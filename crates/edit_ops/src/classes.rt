@@ -49,7 +49,7 @@ pub fn add_class(alloc: Global, project: &Project, class: Class) -> Result<Proje
 }
 
 /// The place of the class of this name.
-fn place_of(project: &Project, class: &Name) -> usize
+pub(crate) fn place_of(project: &Project, class: &Name) -> usize
     requires { has_site project.now.classes (site.Class class.now) ≡ true }
     ensures place { position (is_called class.now) project.now.classes ≡ Some result }
     ensures within { result < length project.now.classes }
@@ -121,6 +121,30 @@ fn fits(project: &Project, place: usize, class: &Class) -> bool
     others.saturating_add(class.size()) <= MOST_SIZE
 }
 
+/// The project with this class at a place.
+///
+/// # Errors
+///
+/// The project would be too large, or there is no memory.
+pub(crate) fn with_fitting(
+    alloc: Global,
+    project: &Project,
+    place: usize,
+    class: Class,
+) -> Result<Project, EditRefused>
+    requires within { place < length project.now.classes }
+    requires kept { nat_le (size (slice_set project.now.classes place class)) most_size ≡ true → IsProject (record project.now { classes = slice_set project.now.classes place class }) }
+    ensures set { IfOk result (λ new. new ≡ record project.now { classes = slice_set project.now.classes place class }) }
+    ensures fine { OnOk result (spec.size_refused (record project.now { classes = slice_set project.now.classes place class }) ≡ None) }
+    ensures refused { (why : EditRefused) → result ≡ Err why → (why ≡ EditRefused.NoMemory) ⊎ (spec.size_refused (record project.now { classes = slice_set project.now.classes place class }) ≡ Some why) }
+{
+    if !fits(project, place, &class) {
+        mem::drop(class);
+        return Err(EditRefused::Limit(LimitKind::Size));
+    }
+    Ok(project.with_class(alloc, place, class)?)
+}
+
 /// The project in which the class of this name, which it has, has another constructor.
 ///
 /// # Errors
@@ -140,9 +164,5 @@ pub fn set_constructor(
 {
     let place = place_of(project, class);
     let changed = with_ctor(project.class(place).copy(alloc)?, ctor);
-    if !fits(project, place, &changed) {
-        mem::drop(changed);
-        return Err(EditRefused::Limit(LimitKind::Size));
-    }
-    Ok(project.with_class(alloc, place, changed)?)
+    with_fitting(alloc, project, place, changed)
 }

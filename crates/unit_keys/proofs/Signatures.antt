@@ -1,5 +1,5 @@
 -- Two lists of methods, of which those of one name in each are compared as others see them, one after another.
-use Rattle.std.proofs.Common.{◌≡◌, ◌↔◌, ℕ, zero, suc, ◌+◌, ◌<◌, ◌≤◌, Bool, nat_eq, true, false, cond, List, [], ◌∷◌, drop, length, map, filter, slice_get, Some, refl, sym, subst, ◌∙◌, ap, eq-eqb, eqb-eq, arith}
+use Rattle.std.proofs.Common.{◌≡◌, ◌↔◌, ℕ, zero, suc, ◌+◌, ◌<◌, ◌≤◌, Bool, nat_eq, true, false, cond, List, [], ◌∷◌, drop, length, map, filter, slice_get, Some, refl, sym, subst, ◌∙◌, ap, eq-eqb, eqb-true, arith}
 use Rattle.std.specs.Str.{bytes_eq}
 use Rattle.std.proofs.Math.Seq.{drop-nil}
 use Rattle.std.proofs.lemmas.Option.{slice_get_within}
@@ -119,7 +119,7 @@ module _ (n m : List ℕ) (ds es : List Method) where
 
     pub left_tells : (k : ℕ) → length ds ≤ i → IsNextNamed m es j k
         → (nat_eq k (length es) ≡ true → signatures_among n ds ≡ signatures_among m es) × (signatures_among n ds ≡ signatures_among m es → nat_eq k (length es) ≡ true)
-    left_tells k done next = (λ t. left_all k done next (let s : k ≡ length es = eqb-eq k (length es) t in omega (arith, s)), λ e. go e (nat_eq k (length es)) refl)
+    left_tells k done next = (λ t. left_all k done next (let s : k ≡ length es = eqb-true k (length es) t in omega (arith, s)), λ e. go e (nat_eq k (length es)) refl)
       where
         more : nat_eq k (length es) ≡ false → k < length es
         more q = omega (arith, next.within, apart)

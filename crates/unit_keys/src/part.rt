@@ -2,7 +2,7 @@
 
 /// The part of a project that a fact stands for, over classes and a feature model that are lent, or that are kept.
 #[derive(Drop)]
-pub enum Part<C, M> {
+pub(crate) enum Part<C, M> {
     /// There is none.
     Absent,
     /// The feature model.

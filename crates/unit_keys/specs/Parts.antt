@@ -5,7 +5,8 @@ use Rattle.std.specs.Str.{bytes_eq}
 use Rattle.cfj_model.specs.declared.class.Class.{Class}
 use Rattle.cfj_model.specs.declared.class.Method.{Method}
 use Rattle.cfj_model.specs.declared.feature_model.FeatureModel.{FeatureModel}
-use Rattle.unit_facts.specs.Facts.{Contents, Signature, absent, class_is, head_is, head_of, if_some, method_is, model_is, own_of, signature_of, signatures_are, signatures_of}
+use Rattle.unit_facts.specs.Facts.{Contents, Signature, absent, class_is, head_is, head_of, if_some, method_is}
+use Rattle.unit_facts.specs.Facts.{model_is, own_of, signature_of, signatures_are, signatures_of}
 use Rattle.unit_keys.specs.declared.part.Part.{Part}
 use Rattle.unit_keys.specs.declared.part.Part.TheVariants as part
 use Rattle.unit_keys.specs.declared.seen.Seen.{Seen}
@@ -20,7 +21,8 @@ abbrev pub contents_by : {C M : Type 0} → (C → Class) → (M → FeatureMode
 contents_by class_of model_of part.Absent = absent
 contents_by class_of model_of (part.Model m) = model_is (model_of m)
 contents_by class_of model_of (part.Head c) = head_is (head_of (class_of c))
-contents_by class_of model_of (part.Signatures c i) = at_place (λ d. signatures_are (signatures_of d.name (class_of c))) (class_of c) i
+contents_by class_of model_of (part.Signatures c i) =
+    at_place (λ d. signatures_are (signatures_of d.name (class_of c))) (class_of c) i
 contents_by class_of model_of (part.Own c) = class_is (own_of (class_of c))
 contents_by class_of model_of (part.Method c i) = at_place method_is (class_of c) i
 
@@ -45,7 +47,8 @@ seen_contents (seen.Signatures k d) = signatures_are (signatures_of d.now.name k
 seen_contents (seen.Own k) = class_is (own_of k.now)
 seen_contents (seen.Method d) = method_is d.now
 
--- Of these methods the one at this place is the first from a place on that has this name; where the place is their number none has.
+-- Of these methods the one at this place is the first from a place on that has this name; none has, where the place is
+-- their number.
 pub record IsNextNamed (m : List ℕ) (ds : List Method) (from place : ℕ) : Type 0 where
   pub from_on : from ≤ place
   pub within : place ≤ length ds

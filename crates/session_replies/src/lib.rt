@@ -8,14 +8,14 @@
 #![tactic(auto)]
 
 mod bad_lines;
-mod edit_replies;
+mod edits;
 mod reasons;
 mod reply;
 mod reply_text;
 mod reports;
 mod texts;
 
-pub use self::edit_replies::edit_reply_value;
-pub use ::edit_replies::{EditReply, Reason};
+pub use edit_replies::{EditReply, Reason};
+pub use edits::edit_reply_value;
 pub use reply::{NameReason, Reply, VerdictWord};
 pub use reply_text::reply_text;

@@ -7,8 +7,8 @@ ghost use Rattle.serde_json.specs.Data.{object};
 ghost use Rattle.serde_json.specs.View.{view};
 ghost use Rattle.session_replies.specs.ReplyData as spec;
 
-use ::edit_replies::Reason;
 use cfj_model::{FaultKind, LimitKind, Name, Site};
+use edit_replies::Reason;
 use serde_json::{Value, json};
 use std::alloc::{AllocError, Global};
 
@@ -69,7 +69,7 @@ fn of_limit(alloc: Global, place: u32, limit: LimitKind) -> Result<Value, AllocE
 fn bad_text(alloc: Global, place: u32, at: usize, kind: &FaultKind) -> Result<Value, AllocError>
     ensures { IfOk result (λ value. view value
         ≡ object (spec.has_number (codes "at") at (spec.has_text (codes "fault") (kind_text kind.now)
-            (spec.has_number (codes "place") place (spec.refused (codes "BadText")))))) }
+        (spec.has_number (codes "place") place (spec.refused (codes "BadText")))))) }
 {
     let fault = format!(in alloc; "{kind}")?;
     json!(in alloc; {"at": at, "fault": fault, "place": place, "reason": "BadText", "reply": "refused"})

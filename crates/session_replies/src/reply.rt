@@ -3,8 +3,8 @@
 ghost use Rattle.std.specs.Prelude.{◌≡◌};
 ghost use Rattle.session_replies.specs.ReplyData.{verdict_text, name_reason_text};
 
-use ::edit_replies::EditReply;
 use cfj_model::{Items, Text};
+use edit_replies::EditReply;
 use session_requests::BadLine;
 
 /// What is answered to a line of a session. Each edition has a number, and a version: the number of edits that it has.
@@ -15,9 +15,15 @@ pub enum Reply {
     /// To an edit or a refresh: the desk is full.
     Full,
     /// To a refresh: this edition was published.
-    Published { edition: u32, version: u32 },
+    Published {
+        edition: u32,
+        version: u32,
+    },
     /// To a refresh: the last edition has all accepted edits already.
-    Already { edition: u32, version: u32 },
+    Already {
+        edition: u32,
+        version: u32,
+    },
     /// The numbers of the last edition.
     Read {
         /// How many of its entries are broken.

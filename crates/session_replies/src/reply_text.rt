@@ -39,7 +39,14 @@ fn reply_value(alloc: Global, reply: &Reply) -> Result<Value, AllocError>
             undecided,
             verdict,
             version,
-        } => read_value(alloc, *broken, *edition, *undecided, verdict.text(), *version),
+        } => read_value(
+            alloc,
+            *broken,
+            *edition,
+            *undecided,
+            verdict.text(),
+            *version,
+        ),
         Reply::Entries {
             edition,
             lines,

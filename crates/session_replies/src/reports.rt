@@ -65,7 +65,7 @@ pub(crate) fn invalid_value(
 ) -> Result<Value, AllocError>
     ensures { IfOk result (λ value. view value
         ≡ object (spec.has_number (codes "constraint") constraint
-            (spec.has_number (codes "edition") edition (spec.reply_and_version (codes "invalid") version)))) }
+        (spec.has_number (codes "edition") edition (spec.reply_and_version (codes "invalid") version)))) }
 {
     json!(in alloc; {"constraint": constraint, "edition": edition, "reply": "invalid", "version": version})
 }
@@ -80,7 +80,7 @@ pub(crate) fn bad_names_value(
 ) -> Result<Value, AllocError>
     ensures { IfOk result (λ value. view value
         ≡ object (spec.has_number (codes "edition") edition (spec.has_text (codes "name") name.now
-            (spec.has_text (codes "reason") reason.now (spec.reply_and_version (codes "badnames") version))))) }
+        (spec.has_text (codes "reason") reason.now (spec.reply_and_version (codes "badnames") version))))) }
 {
     json!(in alloc; {"edition": edition, "name": name, "reason": reason, "reply": "badnames", "version": version})
 }
@@ -96,8 +96,8 @@ pub(crate) fn read_value(
 ) -> Result<Value, AllocError>
     ensures { IfOk result (λ value. view value
         ≡ object (spec.has_number (codes "broken") broken (spec.has_number (codes "edition") edition
-            (spec.has_text (codes "reply") (codes "read") (spec.has_number (codes "undecided") undecided
-            (spec.has_text (codes "verdict") verdict.now (spec.has_number (codes "version") version no_members))))))) }
+        (spec.has_text (codes "reply") (codes "read") (spec.has_number (codes "undecided") undecided
+        (spec.has_text (codes "verdict") verdict.now (spec.has_number (codes "version") version no_members))))))) }
 {
     json!(in alloc; {
         "broken": broken,

@@ -1,10 +1,10 @@
 -- How an edit is written: as the object of the request that asks for it, its keys in byte order.
 use Rattle.std.specs.Prelude.{ℕ, List, codes}
-use Rattle.cfj_model.specs.Sites.{site_text}
+use Rattle.cfj_model.specs.Sites.{site_text, member_site}
 use Rattle.cfj_model.specs.declared.edit.Edit.{Edit}
 use Rattle.cfj_model.specs.declared.edit.Edit.TheVariants as edit
 use Rattle.serde_json.specs.Data.{Data, number, unsigned, string, array, object, Members, no_members, member}
-use Rattle.session_requests.specs.Fields.{member_site, mark_text, text_items}
+use Rattle.session_requests.specs.Fields.{mark_text, text_items}
 
 -- a member with a text
 abbrev pub text_member : List ℕ → List ℕ → Members → Members

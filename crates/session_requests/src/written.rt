@@ -1,10 +1,10 @@
 //! Edits as the objects that ask for them.
 
 ghost use Rattle.std.specs.Prelude.{◌≡◌, IfOk, codes, string_bytes};
-ghost use Rattle.cfj_model.specs.Sites.{site_text};
+ghost use Rattle.cfj_model.specs.Sites.{member_site, site_text};
 ghost use Rattle.serde_json.specs.Data.{array, string, number, unsigned, object, member, no_members};
 ghost use Rattle.serde_json.specs.View.{view};
-ghost use Rattle.session_requests.specs.Fields.{mark_text, member_site, text_items};
+ghost use Rattle.session_requests.specs.Fields.{mark_text, text_items};
 ghost use Rattle.session_requests.specs.Written.{edit_data, text_member};
 
 use cfj_model::{Edit, MemberName, Name, Signed, Site, SiteRef};
@@ -54,7 +54,7 @@ fn with_class(
 ) -> Result<Value, AllocError>
     ensures { IfOk result (λ value. view value
         ≡ object (member (codes "base") (number (unsigned base)) (text_member (codes "class") class.now
-            (text_member (codes "op") op.now (text_member (codes "text") text.now no_members))))) }
+        (text_member (codes "op") op.now (text_member (codes "text") text.now no_members))))) }
 {
     json!(in alloc; {"base": base, "class": class.text(), "op": op, "text": text})
 }
@@ -62,7 +62,7 @@ fn with_class(
 fn remove_class(alloc: Global, base: u32, class: &Name) -> Result<Value, AllocError>
     ensures { IfOk result (λ value. view value
         ≡ object (member (codes "base") (number (unsigned base)) (text_member (codes "class") class.now
-            (text_member (codes "op") (codes "remove_class") no_members)))) }
+        (text_member (codes "op") (codes "remove_class") no_members)))) }
 {
     json!(in alloc; {"base": base, "class": class.text(), "op": "remove_class"})
 }
@@ -70,7 +70,7 @@ fn remove_class(alloc: Global, base: u32, class: &Name) -> Result<Value, AllocEr
 fn set_super(alloc: Global, base: u32, class: &Name, text: &str) -> Result<Value, AllocError>
     ensures { IfOk result (λ value. view value
         ≡ object (member (codes "base") (number (unsigned base)) (text_member (codes "class") class.now
-            (text_member (codes "op") (codes "set_super") (text_member (codes "super") text.now no_members))))) }
+        (text_member (codes "op") (codes "set_super") (text_member (codes "super") text.now no_members))))) }
 {
     json!(in alloc; {"base": base, "class": class.text(), "op": "set_super", "super": text})
 }
@@ -83,7 +83,7 @@ fn replace_member(
 ) -> Result<Value, AllocError>
     ensures { IfOk result (λ value. view value
         ≡ object (member (codes "base") (number (unsigned base)) (text_member (codes "op") (codes "replace_member")
-            (text_member (codes "path") (site_text (member_site old.now)) (text_member (codes "text") text.now no_members))))) }
+        (text_member (codes "path") (site_text (member_site old.now)) (text_member (codes "text") text.now no_members))))) }
 {
     let path = member_path(alloc, old)?;
     json!(in alloc; {"base": base, "op": "replace_member", "path": path, "text": text})
@@ -92,7 +92,7 @@ fn replace_member(
 fn remove_member(alloc: Global, base: u32, old: &MemberName) -> Result<Value, AllocError>
     ensures { IfOk result (λ value. view value
         ≡ object (member (codes "base") (number (unsigned base)) (text_member (codes "op") (codes "remove_member")
-            (text_member (codes "path") (site_text (member_site old.now)) no_members)))) }
+        (text_member (codes "path") (site_text (member_site old.now)) no_members)))) }
 {
     let path = member_path(alloc, old)?;
     json!(in alloc; {"base": base, "op": "remove_member", "path": path})
@@ -109,15 +109,10 @@ fn member_path(alloc: Global, old: &MemberName) -> Result<String, AllocError>
     format!(in alloc; "{site}")
 }
 
-fn set_colors(
-    alloc: Global,
-    base: u32,
-    site: &Site,
-    marks: &[Signed],
-) -> Result<Value, AllocError>
+fn set_colors(alloc: Global, base: u32, site: &Site, marks: &[Signed]) -> Result<Value, AllocError>
     ensures { IfOk result (λ value. view value
         ≡ object (member (codes "base") (number (unsigned base)) (member (codes "colors") (array (text_items mark_text marks.now))
-            (text_member (codes "op") (codes "set_colors") (text_member (codes "path") (site_text site.now) no_members))))) }
+        (text_member (codes "op") (codes "set_colors") (text_member (codes "path") (site_text site.now) no_members))))) }
 {
     let path = format!(in alloc; "{site}")?;
     let colors = marks_value(alloc, marks)?;

@@ -23,13 +23,54 @@ enum Kind {
 /// Each op with its fields in order.
 const TABLE: [(&str, &[(&str, Kind)]); 16] = [
     ("add_class", &[("base", Kind::Number), ("text", Kind::Text)]),
-    ("remove_class", &[("base", Kind::Number), ("class", Kind::Identifier)]),
-    ("add_member", &[("base", Kind::Number), ("class", Kind::Identifier), ("text", Kind::Text)]),
-    ("replace_member", &[("base", Kind::Number), ("path", Kind::Member), ("text", Kind::Text)]),
-    ("remove_member", &[("base", Kind::Number), ("path", Kind::Member)]),
-    ("set_super", &[("base", Kind::Number), ("class", Kind::Identifier), ("super", Kind::Text)]),
-    ("set_constructor", &[("base", Kind::Number), ("class", Kind::Identifier), ("text", Kind::Text)]),
-    ("set_colors", &[("base", Kind::Number), ("path", Kind::Path), ("colors", Kind::Marks)]),
+    (
+        "remove_class",
+        &[("base", Kind::Number), ("class", Kind::Identifier)],
+    ),
+    (
+        "add_member",
+        &[
+            ("base", Kind::Number),
+            ("class", Kind::Identifier),
+            ("text", Kind::Text),
+        ],
+    ),
+    (
+        "replace_member",
+        &[
+            ("base", Kind::Number),
+            ("path", Kind::Member),
+            ("text", Kind::Text),
+        ],
+    ),
+    (
+        "remove_member",
+        &[("base", Kind::Number), ("path", Kind::Member)],
+    ),
+    (
+        "set_super",
+        &[
+            ("base", Kind::Number),
+            ("class", Kind::Identifier),
+            ("super", Kind::Text),
+        ],
+    ),
+    (
+        "set_constructor",
+        &[
+            ("base", Kind::Number),
+            ("class", Kind::Identifier),
+            ("text", Kind::Text),
+        ],
+    ),
+    (
+        "set_colors",
+        &[
+            ("base", Kind::Number),
+            ("path", Kind::Path),
+            ("colors", Kind::Marks),
+        ],
+    ),
     ("set_model", &[("base", Kind::Number), ("text", Kind::Text)]),
     ("refresh", &[]),
     ("read", &[]),
@@ -195,7 +236,10 @@ fn changed_lines_are_told_by_their_first_cause(rt: HostRuntime) -> Result<(), Fa
         for place in 0..line.len() {
             for to in CHANGES {
                 let bytes = changed(alloc, line, place, to)?;
-                assert!(rt; is_told(alloc, bytes.as_slice())?, "{good} at {place} to {to}");
+                assert!(rt;
+                    is_told(alloc, bytes.as_slice())?,
+                    "{good} at {place} to {to}"
+                );
             }
         }
     }

@@ -38,10 +38,20 @@ fn edit(alloc: Global, edit: &Edit) -> Result<String, AllocError> {
         }
         Edit::ReplaceMember { member, text } => match member {
             MemberName::Field(class, name, alt) => {
-                format!(in alloc; "field {} {} {alt} {}", class.text(), name.text(), text.as_str())
+                format!(in alloc;
+                    "field {} {} {alt} {}",
+                    class.text(),
+                    name.text(),
+                    text.as_str()
+                )
             }
             MemberName::Method(class, name, alt) => {
-                format!(in alloc; "method {} {} {alt} {}", class.text(), name.text(), text.as_str())
+                format!(in alloc;
+                    "method {} {} {alt} {}",
+                    class.text(),
+                    name.text(),
+                    text.as_str()
+                )
             }
         },
         Edit::RemoveMember { member } => match member {
@@ -102,23 +112,62 @@ pub(crate) fn bad_told(alloc: Global, bad: &BadLine) -> Result<String, AllocErro
 
 /// Lines, each with what is told of it.
 const LINES: [(&[u8], &str); 39] = [
-    (b"{\"op\":\"add_class\",\"base\":0,\"text\":\"class\"}", "0 class class"),
-    (b"{\"op\":\"remove_class\",\"base\":4294967295,\"class\":\"A\"}", "4294967295 no class A"),
-    (b" { \"op\" : \"add_member\" , \"text\" : \"\" , \"class\" : \"A\" , \"base\" : 1 }\r", "1 member A "),
-    (b"{\"op\":\"replace_member\",\"base\":2,\"path\":\"A.m~1()\",\"text\":\"t\"}", "2 method A m 1 t"),
-    (b"{\"op\":\"replace_member\",\"base\":2,\"path\":\"A.f\",\"text\":\"t\"}", "2 field A f 0 t"),
-    (b"{\"op\":\"remove_member\",\"base\":3,\"path\":\"A.f\"}", "3 no field A f 0"),
-    (b"{\"op\":\"set_super\",\"base\":4,\"class\":\"A\",\"super\":\"B C\"}", "4 super A B C"),
-    (b"{\"op\":\"set_constructor\",\"base\":5,\"class\":\"A\",\"text\":\"A()\"}", "5 new A A()"),
-    (b"{\"op\":\"set_colors\",\"base\":6,\"path\":\"A.m()#2\",\"colors\":[\"F\",\"!G\",\"F\"]}", "6 colors A.m()#2 F,!G,F,"),
-    (b"{\"op\":\"set_colors\",\"base\":6,\"path\":\"*\",\"colors\":[]}", "6 colors * "),
-    (b"{\"op\":\"set_model\",\"base\":7,\"text\":\"features A;\"}", "7 model features A;"),
+    (
+        b"{\"op\":\"add_class\",\"base\":0,\"text\":\"class\"}",
+        "0 class class",
+    ),
+    (
+        b"{\"op\":\"remove_class\",\"base\":4294967295,\"class\":\"A\"}",
+        "4294967295 no class A",
+    ),
+    (
+        b" { \"op\" : \"add_member\" , \"text\" : \"\" , \"class\" : \"A\" , \"base\" : 1 }\r",
+        "1 member A ",
+    ),
+    (
+        b"{\"op\":\"replace_member\",\"base\":2,\"path\":\"A.m~1()\",\"text\":\"t\"}",
+        "2 method A m 1 t",
+    ),
+    (
+        b"{\"op\":\"replace_member\",\"base\":2,\"path\":\"A.f\",\"text\":\"t\"}",
+        "2 field A f 0 t",
+    ),
+    (
+        b"{\"op\":\"remove_member\",\"base\":3,\"path\":\"A.f\"}",
+        "3 no field A f 0",
+    ),
+    (
+        b"{\"op\":\"set_super\",\"base\":4,\"class\":\"A\",\"super\":\"B C\"}",
+        "4 super A B C",
+    ),
+    (
+        b"{\"op\":\"set_constructor\",\"base\":5,\"class\":\"A\",\"text\":\"A()\"}",
+        "5 new A A()",
+    ),
+    (
+        b"{\"op\":\"set_colors\",\"base\":6,\"path\":\"A.m()#2\",\"colors\":[\"F\",\"!G\",\"F\"]}",
+        "6 colors A.m()#2 F,!G,F,",
+    ),
+    (
+        b"{\"op\":\"set_colors\",\"base\":6,\"path\":\"*\",\"colors\":[]}",
+        "6 colors * ",
+    ),
+    (
+        b"{\"op\":\"set_model\",\"base\":7,\"text\":\"features A;\"}",
+        "7 model features A;",
+    ),
     (b"{\"op\":\"refresh\"}", "refresh"),
     (b"{\"op\":\"read\",\"op\":\"entries\"}", "entries"),
     (b"{\"op\":\"read\"}", "read"),
     (b"{\"op\":\"source\"}", "source"),
-    (b"{\"op\":\"export\",\"select\":[\"A\",\"A\"]}", "export A,A,"),
-    (b"{\"op\":\"view\",\"feature\":\"no feature\"}", "view no feature"),
+    (
+        b"{\"op\":\"export\",\"select\":[\"A\",\"A\"]}",
+        "export A,A,",
+    ),
+    (
+        b"{\"op\":\"view\",\"feature\":\"no feature\"}",
+        "view no feature",
+    ),
     (b"{\"op\":\"done\"}", "done"),
     (b"\xff", "NotJson"),
     (b"{\"op\":\"read\",\"a\":\"\xff\"}", "NotJson"),
@@ -127,20 +176,62 @@ const LINES: [(&[u8], &str); 39] = [
     (b"{}", "NoOp"),
     (b"{\"op\":1,\"x\":2}", "NoOp"),
     (b"{\"op\":\"Read\",\"x\":2}", "UnknownOp"),
-    (b"{\"op\":\"set_colors\",\"colors\":3,\"x\":1}", "MissingField base"),
-    (b"{\"op\":\"set_colors\",\"base\":null,\"colors\":3,\"x\":1}", "MissingField path"),
-    (b"{\"op\":\"set_colors\",\"base\":1.0,\"path\":\"\",\"colors\":3,\"x\":1}", "WrongField base"),
-    (b"{\"op\":\"set_colors\",\"base\":-0,\"path\":\"\",\"colors\":3,\"x\":1}", "WrongField base"),
-    (b"{\"op\":\"set_colors\",\"base\":4294967296,\"path\":\"\",\"colors\":3,\"x\":1}", "WrongField base"),
-    (b"{\"op\":\"set_colors\",\"base\":0,\"path\":\"A.f~0\",\"colors\":3,\"x\":1}", "WrongField path"),
-    (b"{\"op\":\"set_colors\",\"base\":0,\"path\":\"A.f\",\"colors\":[\"A\",\"! B\"],\"x\":1}", "WrongField colors"),
-    (b"{\"op\":\"set_colors\",\"base\":0,\"path\":\"A.f\",\"colors\":[\"A\",\"this\"]}", "WrongField colors"),
-    (b"{\"op\":\"remove_member\",\"base\":0,\"path\":\"A.new\"}", "WrongField path"),
-    (b"{\"op\":\"remove_member\",\"base\":0,\"path\":\"A.m()#0\"}", "WrongField path"),
-    (b"{\"op\":\"remove_class\",\"base\":0,\"class\":\"class\"}", "WrongField class"),
-    (b"{\"op\":\"export\",\"select\":[\"A\",1]}", "WrongField select"),
-    (b"{\"op\":\"remove_class\",\"base\":0,\"class\":\"A\",\"text\":1,\"path\":2,\"z\":3}", "ExtraField path"),
-    (b"{\"op\":\"refresh\",\"b\":1,\"\":2,\"a\":1}", "ExtraField "),
+    (
+        b"{\"op\":\"set_colors\",\"colors\":3,\"x\":1}",
+        "MissingField base",
+    ),
+    (
+        b"{\"op\":\"set_colors\",\"base\":null,\"colors\":3,\"x\":1}",
+        "MissingField path",
+    ),
+    (
+        b"{\"op\":\"set_colors\",\"base\":1.0,\"path\":\"\",\"colors\":3,\"x\":1}",
+        "WrongField base",
+    ),
+    (
+        b"{\"op\":\"set_colors\",\"base\":-0,\"path\":\"\",\"colors\":3,\"x\":1}",
+        "WrongField base",
+    ),
+    (
+        b"{\"op\":\"set_colors\",\"base\":4294967296,\"path\":\"\",\"colors\":3,\"x\":1}",
+        "WrongField base",
+    ),
+    (
+        b"{\"op\":\"set_colors\",\"base\":0,\"path\":\"A.f~0\",\"colors\":3,\"x\":1}",
+        "WrongField path",
+    ),
+    (
+        b"{\"op\":\"set_colors\",\"base\":0,\"path\":\"A.f\",\"colors\":[\"A\",\"! B\"],\"x\":1}",
+        "WrongField colors",
+    ),
+    (
+        b"{\"op\":\"set_colors\",\"base\":0,\"path\":\"A.f\",\"colors\":[\"A\",\"this\"]}",
+        "WrongField colors",
+    ),
+    (
+        b"{\"op\":\"remove_member\",\"base\":0,\"path\":\"A.new\"}",
+        "WrongField path",
+    ),
+    (
+        b"{\"op\":\"remove_member\",\"base\":0,\"path\":\"A.m()#0\"}",
+        "WrongField path",
+    ),
+    (
+        b"{\"op\":\"remove_class\",\"base\":0,\"class\":\"class\"}",
+        "WrongField class",
+    ),
+    (
+        b"{\"op\":\"export\",\"select\":[\"A\",1]}",
+        "WrongField select",
+    ),
+    (
+        b"{\"op\":\"remove_class\",\"base\":0,\"class\":\"A\",\"text\":1,\"path\":2,\"z\":3}",
+        "ExtraField path",
+    ),
+    (
+        b"{\"op\":\"refresh\",\"b\":1,\"\":2,\"a\":1}",
+        "ExtraField ",
+    ),
 ];
 
 #[test]

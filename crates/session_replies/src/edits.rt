@@ -6,7 +6,7 @@ ghost use Rattle.serde_json.specs.View.{view};
 ghost use Rattle.session_replies.specs.ReplyData as spec;
 
 use crate::reasons::refusal_value;
-use ::edit_replies::EditReply;
+use edit_replies::EditReply;
 use serde_json::{Value, json};
 use std::alloc::{AllocError, Global};
 

@@ -6,7 +6,7 @@ ghost use Rattle.serde_json.specs.View.{view};
 ghost use Rattle.session_replies.specs.ReplyData.{reply_data};
 
 use crate::bad_lines::bad_line_value;
-use crate::edit_replies::edit_reply_value;
+use crate::edits::edit_reply_value;
 use crate::reply::Reply;
 use crate::reports::{
     bad_names_value, bytes_value, edition_value, invalid_value, lines_value, read_value, word_value,

@@ -1,6 +1,8 @@
 -- How an edit is written: as the object of the request that asks for it, its keys in byte order.
-use Rattle.std.specs.Prelude.{ℕ, List, codes}
-use Rattle.cfj_model.specs.Sites.{site_text, member_site}
+use Rattle.std.specs.Prelude.{◌≡◌, ℕ, true, List, codes}
+use Rattle.std.specs.List.{AllPass}
+use Rattle.cfj_words.specs.Names.{is_short_identifier}
+use Rattle.cfj_model.specs.Sites.{site_text, member_site, IsPath}
 use Rattle.cfj_model.specs.declared.edit.Edit.{Edit}
 use Rattle.cfj_model.specs.declared.edit.Edit.TheVariants as edit
 use Rattle.serde_json.specs.Data.{Data, number, unsigned, string, array, object, Members, no_members, member}
@@ -41,3 +43,15 @@ edit_members base (edit.SetModel text) =
 -- the object of the request for an edit of this base
 abbrev pub edit_data : ℕ → Edit → Data
 edit_data base e = object (edit_members base e)
+
+-- its names and numbers may stand in a request
+abbrev pub IsAskable : Edit → Type 0
+IsAskable (edit.AddClass text) = Unit {0}
+IsAskable (edit.RemoveClass c) = is_short_identifier c ≡ true
+IsAskable (edit.AddMember c text) = is_short_identifier c ≡ true
+IsAskable (edit.ReplaceMember m text) = IsPath (member_site m)
+IsAskable (edit.RemoveMember m) = IsPath (member_site m)
+IsAskable (edit.SetSuper c text) = is_short_identifier c ≡ true
+IsAskable (edit.SetConstructor c text) = is_short_identifier c ≡ true
+IsAskable (edit.SetColors s marks) = IsPath s × AllPass (λ mark. is_short_identifier mark.name) marks
+IsAskable (edit.SetModel text) = Unit {0}

@@ -25,4 +25,4 @@ pub use field::Field;
 pub use op::{EditOp, Op};
 pub use reading::{read_request, request_of};
 pub use request::Request;
-pub use written::edit_value;
+pub use written::{edit_value, written_is_asked};

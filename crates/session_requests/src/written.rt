@@ -1,11 +1,14 @@
 //! Edits as the objects that ask for them.
 
-ghost use Rattle.std.specs.Prelude.{◌≡◌, IfOk, codes, string_bytes};
+ghost use Rattle.std.specs.Prelude.{◌≡◌, ◌<◌, ◌^◌, ℕ, IfOk, codes, string_bytes};
 ghost use Rattle.cfj_model.specs.Sites.{member_site, site_text};
+ghost use Rattle.cfj_model.specs.declared.edit.Edit.{Edit};
 ghost use Rattle.serde_json.specs.Data.{array, string, number, unsigned, object, member, no_members};
 ghost use Rattle.serde_json.specs.View.{view};
 ghost use Rattle.session_requests.specs.Fields.{mark_text, text_items};
-ghost use Rattle.session_requests.specs.Written.{edit_data, text_member};
+ghost use Rattle.session_requests.specs.Requests.{IsRequest};
+ghost use Rattle.session_requests.specs.Written.{IsAskable, edit_data, text_member};
+ghost use Rattle.session_requests.specs.declared.request.Request.TheVariants as request;
 
 use cfj_model::{Edit, MemberName, Name, Signed, Site, SiteRef};
 use serde_json::{Value, json};
@@ -37,6 +40,11 @@ pub fn edit_value(alloc: Global, base: u32, edit: &Edit) -> Result<Value, AllocE
         Edit::SetModel { text } => with_text(alloc, base, "set_model", text.as_str()),
     }
 }
+
+/// The object that is written for an edit is the request that asks for it.
+pub fn written_is_asked()
+    ensures { (base : ℕ) (edit : Edit) → base < 2 ^ 32 → IsAskable edit → IsRequest (edit_data base edit) (request.Edit base edit) }
+{}
 
 fn with_text(alloc: Global, base: u32, op: &str, text: &str) -> Result<Value, AllocError>
     ensures { IfOk result (λ value. view value

@@ -10,5 +10,5 @@ pub returns : goal.returns
 returns c =
     let whole : take c.texts.text-index c.args.texts.now ≡ c.args.texts.now = take_all _ _ (omega arith) in
     let strings : map view c.texts.items.items ≡ map (λ text. string text) c.args.texts.now =
-        c.texts.invariant ∙ ap (map (λ text. string text)) whole in
+    c.texts.invariant ∙ ap (map (λ text. string text)) whole in
     view-Array c.texts.items ∙ ap array (items_of-strings (λ text. text) c.texts.items.items c.args.texts.now strings)

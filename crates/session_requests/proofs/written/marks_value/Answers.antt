@@ -11,5 +11,5 @@ pub returns : goal.returns
 returns c =
     let whole : take c.marks.mark-index c.args.marks.now ≡ c.args.marks.now = take_all _ _ (omega arith) in
     let strings : map view c.marks.items.items ≡ map (λ mark. string (mark_text mark)) c.args.marks.now =
-        c.marks.invariant ∙ ap (map (λ mark. string (mark_text mark))) whole in
+    c.marks.invariant ∙ ap (map (λ mark. string (mark_text mark))) whole in
     view-Array c.marks.items ∙ ap array (items_of-strings mark_text c.marks.items.items c.args.marks.now strings)

@@ -11,11 +11,11 @@ mod bad_lines;
 mod edits;
 mod reasons;
 mod reply;
-mod reply_text;
+mod reply_line;
 mod reports;
 mod texts;
 
 pub use edit_replies::{EditReply, Reason};
 pub use edits::edit_reply_value;
 pub use reply::{NameReason, Reply, VerdictWord};
-pub use reply_text::reply_text;
+pub use reply_line::reply_text;

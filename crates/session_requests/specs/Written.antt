@@ -15,30 +15,38 @@ text_member k text more = member k (string text) more
 -- the members of an edit's request
 abbrev pub edit_members : ℕ → Edit → Members
 edit_members base (edit.AddClass text) =
-    member (codes "base") (number (unsigned base)) (text_member (codes "op") (codes "add_class") (text_member (codes "text") text no_members))
+    member (codes "base") (number (unsigned base)) (text_member (codes "op") (codes "add_class")
+    (text_member (codes "text") text no_members))
 edit_members base (edit.RemoveClass c) =
-    member (codes "base") (number (unsigned base)) (text_member (codes "class") c (text_member (codes "op") (codes "remove_class") no_members))
+    member (codes "base") (number (unsigned base)) (text_member (codes "class") c
+    (text_member (codes "op") (codes "remove_class") no_members))
 edit_members base (edit.AddMember c text) =
     member (codes "base") (number (unsigned base))
-    (text_member (codes "class") c (text_member (codes "op") (codes "add_member") (text_member (codes "text") text no_members)))
+    (text_member (codes "class") c (text_member (codes "op") (codes "add_member")
+    (text_member (codes "text") text no_members)))
 edit_members base (edit.ReplaceMember m text) =
     member (codes "base") (number (unsigned base))
-    (text_member (codes "op") (codes "replace_member") (text_member (codes "path") (site_text (member_site m)) (text_member (codes "text") text no_members)))
+    (text_member (codes "op") (codes "replace_member") (text_member (codes "path") (site_text (member_site m))
+    (text_member (codes "text") text no_members)))
 edit_members base (edit.RemoveMember m) =
     member (codes "base") (number (unsigned base))
-    (text_member (codes "op") (codes "remove_member") (text_member (codes "path") (site_text (member_site m)) no_members))
+    (text_member (codes "op") (codes "remove_member")
+    (text_member (codes "path") (site_text (member_site m)) no_members))
 edit_members base (edit.SetSuper c text) =
     member (codes "base") (number (unsigned base))
-    (text_member (codes "class") c (text_member (codes "op") (codes "set_super") (text_member (codes "super") text no_members)))
+    (text_member (codes "class") c (text_member (codes "op") (codes "set_super")
+    (text_member (codes "super") text no_members)))
 edit_members base (edit.SetConstructor c text) =
     member (codes "base") (number (unsigned base))
-    (text_member (codes "class") c (text_member (codes "op") (codes "set_constructor") (text_member (codes "text") text no_members)))
+    (text_member (codes "class") c (text_member (codes "op") (codes "set_constructor")
+    (text_member (codes "text") text no_members)))
 edit_members base (edit.SetColors s marks) =
     member (codes "base") (number (unsigned base))
     (member (codes "colors") (array (text_items mark_text marks))
     (text_member (codes "op") (codes "set_colors") (text_member (codes "path") (site_text s) no_members)))
 edit_members base (edit.SetModel text) =
-    member (codes "base") (number (unsigned base)) (text_member (codes "op") (codes "set_model") (text_member (codes "text") text no_members))
+    member (codes "base") (number (unsigned base)) (text_member (codes "op") (codes "set_model")
+    (text_member (codes "text") text no_members))
 
 -- the object of the request for an edit of this base
 abbrev pub edit_data : ℕ → Edit → Data

@@ -1,7 +1,7 @@
 //! Lines of requests.
 
 use cfj_model::{Edit, MemberName, Name, Signed, Text};
-use session_requests::{BadLine, Request, read_request};
+use session_requests::{BadLine, Request, edit_value, read_request};
 use std::alloc::{AllocError, Global};
 use std::test::Fail;
 
@@ -239,6 +239,65 @@ fn each_line_is_told_by_its_first_cause(rt: HostRuntime) -> Result<(), Fail> {
     let alloc = rt.alloc();
     for (line, wanted) in LINES {
         let came = told(alloc, line)?;
+        assert_eq!(rt; came.as_str(), wanted);
+    }
+    Ok(())
+}
+
+/// The request that is written for the edit that a line asks for; empty where it asks for none.
+fn written(alloc: Global, line: &[u8]) -> Result<String, AllocError> {
+    match read_request(alloc, line)? {
+        Ok(Request::Edit { base, edit: of }) => edit_value(alloc, base, &of)?.to_string(alloc),
+        _ => Ok(String::new(alloc)),
+    }
+}
+
+/// Lines of edits, each with its request as it is written.
+const WRITTEN: [(&[u8], &str); 10] = [
+    (
+        b"{\"text\":\"a\\u0022b\",\"op\":\"add_class\",\"base\":0}",
+        "{\"base\":0,\"op\":\"add_class\",\"text\":\"a\\\"b\"}",
+    ),
+    (
+        b"{\"op\":\"remove_class\",\"base\":4294967295,\"class\":\"A\"}",
+        "{\"base\":4294967295,\"class\":\"A\",\"op\":\"remove_class\"}",
+    ),
+    (
+        b"{\"op\":\"add_member\",\"text\":\"t\",\"class\":\"A\",\"base\":1}",
+        "{\"base\":1,\"class\":\"A\",\"op\":\"add_member\",\"text\":\"t\"}",
+    ),
+    (
+        b"{\"op\":\"replace_member\",\"base\":2,\"path\":\"A.m~1()\",\"text\":\"t\"}",
+        "{\"base\":2,\"op\":\"replace_member\",\"path\":\"A.m~1()\",\"text\":\"t\"}",
+    ),
+    (
+        b"{\"op\":\"remove_member\",\"base\":3,\"path\":\"A.f\"}",
+        "{\"base\":3,\"op\":\"remove_member\",\"path\":\"A.f\"}",
+    ),
+    (
+        b"{\"op\":\"set_super\",\"base\":4,\"class\":\"A\",\"super\":\"B\"}",
+        "{\"base\":4,\"class\":\"A\",\"op\":\"set_super\",\"super\":\"B\"}",
+    ),
+    (
+        b"{\"op\":\"set_constructor\",\"base\":5,\"class\":\"A\",\"text\":\"A()\"}",
+        "{\"base\":5,\"class\":\"A\",\"op\":\"set_constructor\",\"text\":\"A()\"}",
+    ),
+    (
+        b"{\"op\":\"set_colors\",\"base\":6,\"path\":\"A.m()#2\",\"colors\":[\"F\",\"!G\"]}",
+        "{\"base\":6,\"colors\":[\"F\",\"!G\"],\"op\":\"set_colors\",\"path\":\"A.m()#2\"}",
+    ),
+    (
+        b"{\"op\":\"set_model\",\"base\":7,\"text\":\"features A;\"}",
+        "{\"base\":7,\"op\":\"set_model\",\"text\":\"features A;\"}",
+    ),
+    (b"{\"op\":\"refresh\"}", ""),
+];
+
+#[test]
+fn an_edit_is_written_as_its_request(rt: HostRuntime) -> Result<(), Fail> {
+    let alloc = rt.alloc();
+    for (line, wanted) in WRITTEN {
+        let came = written(alloc, line)?;
         assert_eq!(rt; came.as_str(), wanted);
     }
     Ok(())

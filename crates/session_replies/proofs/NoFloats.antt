@@ -1,5 +1,5 @@
 -- No reply has a float.
-use Rattle.std.proofs.Common.{◌≡◌, ℕ, List, [], ◌∷◌, false, refl}
+use Rattle.std.proofs.Common.{◌≡◌, ℕ, List, [], ◌∷◌, false, refl, codes}
 use Rattle.edit_replies.specs.declared.edit_reply.EditReply.{EditReply}
 use Rattle.edit_replies.specs.declared.edit_reply.EditReply.TheVariants.{Accepted, Refused}
 use Rattle.edit_replies.specs.declared.edit_reply.Reason.{Reason}
@@ -47,8 +47,8 @@ no_float reply.Full = refl
 no_float (reply.Published edition version) = refl
 no_float (reply.Already edition version) = refl
 no_float (reply.Read broken edition undecided verdict version) = refl
-no_float (reply.Entries edition ls version) = lines edition ls _ version
-no_float (reply.View edition ls version) = lines edition ls _ version
+no_float (reply.Entries edition ls version) = lines edition ls (codes "entries") version
+no_float (reply.View edition ls version) = lines edition ls (codes "view") version
 no_float (reply.Source bytes edition version) = refl
 no_float (reply.Variant bytes edition version) = refl
 no_float (reply.Invalid constraint edition version) = refl

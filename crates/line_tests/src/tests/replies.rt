@@ -4,12 +4,15 @@ use cfj_model::{FaultKind, Items, LimitKind, Name, Text, read_site};
 use session_replies::{EditReply, NameReason, Reason, Reply, VerdictWord, reply_text};
 use session_requests::{BadLine, Field};
 use std::alloc::{AllocError, Global};
+use std::mem;
 use std::test::Fail;
 
 /// Whether the line of a reply is this one.
 fn has_line(alloc: Global, reply: Reply, wanted: &str) -> Result<bool, AllocError> {
-    let line = reply_text(alloc, &reply)?;
-    Ok(line.as_str() == wanted)
+    let line = reply_text(alloc, &reply);
+    // A reply is dropped as a whole.
+    mem::drop(reply);
+    Ok(line?.as_str() == wanted)
 }
 
 fn text(alloc: Global, text: &str) -> Result<Text, AllocError> {

@@ -3,5 +3,4 @@
 mod changed_requests;
 mod json;
 mod reading;
-mod replies;
 mod requests;

@@ -1,4 +1,6 @@
 //! What is tested, by layer.
 
+mod changed_requests;
 mod json;
 mod reading;
+mod requests;

@@ -6,3 +6,4 @@ pub mod Spelling
 pub mod Extra
 pub mod Marks
 pub mod SitePaths
+pub mod Asked

@@ -4,3 +4,4 @@ pub mod Requests
 pub mod BadLines
 pub mod Reads
 pub mod Refusals
+pub mod Written

@@ -18,9 +18,11 @@ mod reading;
 mod request;
 mod spelled;
 mod unread;
+mod written;
 
 pub use bad_line::BadLine;
 pub use field::Field;
 pub use op::{EditOp, Op};
 pub use reading::{read_request, request_of};
 pub use request::Request;
+pub use written::{edit_value, written_is_asked};

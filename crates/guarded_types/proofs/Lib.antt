@@ -1,1 +1,3 @@
+pub mod FirstItems
 pub mod MarkGates
+pub mod VariantChains

@@ -1,5 +1,7 @@
 -- What the classes of a chain declare, each with the marks under which a variant's chain has it.
 use Rattle.std.specs.Prelude.{ℕ, List, [], ◌∷◌, ◌++◌, map, filter, Option, None, Some}
+use Rattle.std.specs.Borrow.{Bor}
+use Rattle.std.specs.Str.{bytes_eq}
 use Rattle.cfj_logic.specs.Selections.{Chosen}
 use Rattle.cfj_logic.specs.Sides.{Sides}
 use Rattle.cfj_model.specs.Projection.{is_present, presence_of}
@@ -29,3 +31,11 @@ first (x ∷ xs) = Some x
 abbrev pub at_most_one : {A : Type 0} → Option A → List A
 at_most_one None = []
 at_most_one (Some x) = x ∷ []
+
+-- what is referred to
+abbrev pub read : {A : Type 0} → List (Marked (Bor A)) → List (Marked A)
+read xs = map (λ x. record { marks = x.marks; item = x.item.now }) xs
+
+-- the types of the fields of this name that a class itself declares, each with the field's own marks
+abbrev pub typed_fields : List ℕ → Class → List (Marked (List ℕ))
+typed_fields f k = map (λ d. record { marks = d.colors; item = d.of }) (filter (λ d. bytes_eq d.name f) k.fields)

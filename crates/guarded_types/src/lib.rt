@@ -1,8 +1,11 @@
 //! Look-ups in a product line, for all variants at once.
 #![tactic(auto)]
 
+mod fields;
+mod firsts;
 mod marked;
 mod marks;
 
+pub use fields::field_within;
 pub use marked::Marked;
 pub use marks::holds;

@@ -16,6 +16,6 @@ pub returns-clause-worth : goal.returns-clause-worth
 returns-clause-worth c =
     IfOk-weaker c.and.result (λ r. Is c.and.new.self r (λ s. value s c.mark_gate.new.circuit.parts c.args.gate && value s c.mark_gate.new.circuit.parts c.in_ok-mark.mark)) _
     (λ r is.
-      marked_here c.args.circuit.now c.mark_gate.new.circuit c.and.new.self c.args.within c.args.marks c.args.gate c.args.feature c.in_ok-mark.mark r c.args.off
-      c.requires.gate c.mark_gate.ensures.grown c.in_ok-mark.ensures.worth is (sym c.has.ensures ∙ c.if-not-has.false))
+    marked_here c.args.circuit.now c.mark_gate.new.circuit c.and.new.self c.args.within c.args.marks c.args.gate c.args.feature c.in_ok-mark.mark r c.args.off
+    c.requires.gate c.mark_gate.ensures.grown c.in_ok-mark.ensures.worth is (sym c.has.ensures ∙ c.if-not-has.false))
     c.and.ensures.worth

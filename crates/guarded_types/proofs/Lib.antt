@@ -1,3 +1,4 @@
+pub mod FieldTypes
 pub mod FirstItems
 pub mod MarkGates
 pub mod VariantChains

@@ -11,7 +11,7 @@ ghost use Rattle.guarded_seq.specs.Sequences.{AreInside, present};
 ghost use Rattle.guarded_types.specs.Along.{along, at_most_one, behind, read, typed_fields};
 
 use crate::firsts::firsts;
-use crate::marked::Marked;
+use crate::marked::{Marked, push_marked};
 use cfj_model::{Class, Colors, Name, Project};
 use class_table::ClassTable;
 use cond_circuit::Circuit;
@@ -31,10 +31,7 @@ fn push_fields<'a>(
     let name = name.text();
     'each: for field in class.fields.slice() {
         if field.name.text() == name {
-            found.push(Marked {
-                marks: up.union(field.colors),
-                item: &field.of,
-            })?;
+            push_marked(found, up.union(field.colors), &field.of)?;
         }
     }
     Ok(())

@@ -1,4 +1,5 @@
 pub mod FieldTypes
+pub mod FirstDeclared
 pub mod FirstItems
 pub mod KnownMarks
 pub mod MarkGates

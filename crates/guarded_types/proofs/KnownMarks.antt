@@ -10,10 +10,12 @@ use Rattle.std.proofs.lemmas.List.Elements.{All-append, All-map, All-nil}
 use Rattle.cfj_logic.specs.Sides.{Sides, is_over}
 use Rattle.cfj_model.specs.Coloring.{Palette, are_known, no_colors, palette_of, union}
 use Rattle.cfj_model.specs.LookUps.{Table, chain, declared}
-use Rattle.cfj_model.specs.ProductLines.{IsProject, ProductLine, are_fields, are_methods, is_class, is_ctor, is_field, object}
+use Rattle.cfj_model.specs.ProductLines.{IsProject, ProductLine, are_distinct, are_fields, are_methods, are_params, is_body, is_class, is_ctor, is_field, is_method, most_params, object}
 use Rattle.cfj_model.specs.Projection.{presence_of}
 use Rattle.cfj_model.specs.declared.class.Class.{Class}
 use Rattle.cfj_model.specs.declared.class.Field.{Field}
+use Rattle.cfj_model.specs.declared.class.Method.{Method}
+use Rattle.cfj_model.specs.declared.class.Param.{Param}
 use Rattle.cfj_words.specs.Lists.{Has}
 use Rattle.cfj_words.specs.Names.{is_short_identifier}
 use Rattle.class_table.proofs.Members.{all_has, filter_has, has_rest}
@@ -21,7 +23,10 @@ use Rattle.class_table.proofs.Without.{declared_has}
 use Rattle.locality_law.proofs.Items.{Each}
 use Rattle.locality_law.proofs.SeenChains.{chain_all}
 use Rattle.guarded_types.specs.Along.{along, behind, read, typed_fields}
+use Rattle.guarded_types.specs.Declarations.{named_methods}
+use Rattle.guarded_types.specs.Declarations.{read as read_declarations}
 use Rattle.guarded_types.specs.declared.marked.Marked.{Marked}
+use Rattle.guarded_types.specs.declared.methods.Declaration.{Declaration}
 
 abbrev IsOver : ℕ → Sides → Type 0
 IsOver n m = is_over n m ≡ true
@@ -47,6 +52,16 @@ known_over q c e = (and_parts (is_over q.features c) (bit_and c.on c.off == 0) (
 pub record IsMarkedOver (n : ℕ) (k : Class) : Type 0 where
   pub class : IsOver n k.colors
   pub fields : (f : Field) → Has k.fields f → IsOver n f.colors
+  pub methods : (m : Method) → Has k.methods m → IsOver n m.colors
+
+method_over : (q : Palette) (m : Method) → is_method q m ≡ true → IsOver q.features m.colors
+unfolding is_method
+method_over q m e =
+    let a = and_parts _ (is_body q m.body) e in
+    let b = and_parts _ (are_distinct (map (λ (p : Param). p.name) m.params)) a.0 in
+    let c = and_parts _ (are_params most_params q m.params) b.0 in
+    let d = and_parts _ (is_short_identifier m.name) c.0 in
+    known_over q m.colors (and_parts (are_known q m.colors) (is_short_identifier m.result) d.0).0
 
 class_over : (q : Palette) (k : Class) → is_class q k ≡ true → IsMarkedOver q.features k
 unfolding is_class
@@ -61,6 +76,7 @@ class_over q k e =
       fields = λ f h.
           let named = and_parts (are_known q f.colors && is_short_identifier f.of) (is_short_identifier f.name) (all_has (is_field q) k.fields fields.1 f h) in
           known_over q f.colors (and_parts (are_known q f.colors) (is_short_identifier f.of) named.0).0;
+      methods = λ m h. method_over q m (all_has (is_method q) k.methods (and_parts _ (list_all (is_method q) k.methods) a.1).1 m h);
     }
 
 -- each class of a chain
@@ -110,3 +126,19 @@ pub fields_along_over : (line : ProductLine) → IsProject line → (c f : List 
 fields_along_over line project c f =
     let n = length line.model.features in
     along_over n (typed_fields f) (fields_over n f) no_colors (over_none n) (chain line.classes c) (chain_over line project c)
+
+pub methods_over : (n : ℕ) (m : List ℕ) (k : Class) → IsMarkedOver n k → All (λ (x : Marked (Class × Method)). IsOver n x.marks) (named_methods m k)
+methods_over n m k over =
+    listed_over n (λ (d : Method). let x : Marked (Class × Method) = record { marks = d.colors; item = (k, d) } in x) (filter (λ d. bytes_eq d.name m) k.methods)
+    (λ d h. over.methods d (filter_has (λ d. bytes_eq d.name m) k.methods d h).0)
+
+pub methods_along_over : (line : ProductLine) → IsProject line → (c m : List ℕ)
+    → All (λ (x : Marked (Class × Method)). IsOver (length line.model.features) x.marks) (along (named_methods m) no_colors (chain line.classes c))
+methods_along_over line project c m =
+    let n = length line.model.features in
+    along_over n (named_methods m) (methods_over n m) no_colors (over_none n) (chain line.classes c) (chain_over line project c)
+
+pub declarations_over : (n : ℕ) (xs : List (Marked Declaration)) → All (λ (x : Marked (Class × Method)). IsOver n x.marks) (read_declarations xs) → All (λ (x : Marked Declaration). IsOver n x.marks) xs
+declarations_over n [] all k d lt = absurd (omega (arith, lt))
+declarations_over n (x ∷ xs) all zero d lt = all 0 (record { marks = x.marks; item = (x.item.class.now, x.item.method.now) }) (omega arith)
+declarations_over n (x ∷ xs) all (suc k) d lt = declarations_over n xs (λ j e below. all (suc j) e (omega (arith, below))) k d (omega (arith, lt))

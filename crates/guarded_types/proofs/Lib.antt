@@ -3,4 +3,5 @@ pub mod FirstDeclared
 pub mod FirstItems
 pub mod KnownMarks
 pub mod MarkGates
+pub mod MethodDeclarations
 pub mod VariantChains

@@ -5,7 +5,9 @@ mod fields;
 mod firsts;
 mod marked;
 mod marks;
+mod methods;
 
 pub use fields::field_within;
 pub use marked::Marked;
 pub use marks::holds;
+pub use methods::{Declaration, method_within};

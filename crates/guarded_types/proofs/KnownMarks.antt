@@ -31,13 +31,13 @@ use Rattle.guarded_types.specs.declared.methods.Declaration.{Declaration}
 abbrev IsOver : ℕ → Sides → Type 0
 IsOver n m = is_over n m ≡ true
 
-over_none : (n : ℕ) → IsOver n no_colors
+pub over_none : (n : ℕ) → IsOver n no_colors
 over_none n = and_from (nat_lt 0 (2 ^ n)) (nat_lt 0 (2 ^ n)) zero_lt zero_lt
   where
     zero_lt : nat_lt 0 (2 ^ n) ≡ true
     zero_lt = lt-ltb 0 (2 ^ n) (pow_pos n)
 
-over_both : (n : ℕ) (a b : Sides) → IsOver n a → IsOver n b → IsOver n (presence_of a b)
+pub over_both : (n : ℕ) (a b : Sides) → IsOver n a → IsOver n b → IsOver n (presence_of a b)
 over_both n a b left right =
     let l = and_parts (nat_lt a.on (2 ^ n)) (nat_lt a.off (2 ^ n)) left in
     let r = and_parts (nat_lt b.on (2 ^ n)) (nat_lt b.off (2 ^ n)) right in

@@ -4,4 +4,5 @@ pub mod FirstItems
 pub mod KnownMarks
 pub mod MarkGates
 pub mod MethodDeclarations
+pub mod Reached
 pub mod VariantChains

@@ -86,7 +86,7 @@ module _ (s : Chosen) where
   -- ---- what is declared along a chain
 
   -- both marks hold
-  union_present : (a b : Sides) → is_present s (presence_of a b) ≡ cond (is_present s a) (is_present s b) false
+  pub union_present : (a b : Sides) → is_present s (presence_of a b) ≡ cond (is_present s a) (is_present s b) false
   union_present a b = go (is_present s a) refl
     where
       go : (t : Bool) → is_present s a ≡ t → is_present s (presence_of a b) ≡ cond t (is_present s b) false

@@ -19,7 +19,7 @@ firsts-requires c =
     let line = c.args.project.now in
     let n = length line.model.features in
     let is : read c.as_slice.result.now ≡ along (named_methods c.args.method.now) no_colors (chain line.classes c.args.class.now) =
-        ap read c.as_slice.ensures.value ∙ c.in_ok-items.ensures ∙ ap (along (named_methods c.args.method.now) no_colors) (c.chain.ensures ∙ ap (λ (t : Table). chain t c.args.class.now) c.requires.table) in
+    ap read c.as_slice.ensures.value ∙ c.in_ok-items.ensures ∙ ap (along (named_methods c.args.method.now) no_colors) (c.chain.ensures ∙ ap (λ (t : Table). chain t c.args.class.now) c.requires.table) in
     subst (λ m. All (λ (x : Marked Declaration). is_over m x.marks ≡ true) c.as_slice.result.now) (sym c.requires.features)
     (declarations_over n c.as_slice.result.now
     (subst (λ xs. All (λ (x : Marked (Class × Method)). is_over n x.marks ≡ true) xs) (sym is) (methods_along_over line c.model-features.ensures.kept c.args.class.now c.args.method.now)))
@@ -28,8 +28,8 @@ pub returns-clause-method : goal.returns-clause-method
 returns-clause-method c =
     let line = c.args.project.now in
     let is : read c.as_slice.result.now ≡ along (named_methods c.args.method.now) no_colors (chain line.classes c.args.class.now) =
-        ap read c.as_slice.ensures.value ∙ c.in_ok-items.ensures ∙ ap (along (named_methods c.args.method.now) no_colors) (c.chain.ensures ∙ ap (λ (t : Table). chain t c.args.class.now) c.requires.table) in
+    ap read c.as_slice.ensures.value ∙ c.in_ok-items.ensures ∙ ap (along (named_methods c.args.method.now) no_colors) (c.chain.ensures ∙ ap (λ (t : Table). chain t c.args.class.now) c.requires.table) in
     IfOk-weaker c.firsts.result (λ found. IsOfFirst c.firsts.new.circuit c.args.within found.items c.as_slice.result.now) _
     (λ found of.
-      methods_guarded line c.model-features.ensures.kept c.args.class.now c.args.method.now c.args.within c.firsts.new.circuit found.items c.as_slice.result.now is of)
+    methods_guarded line c.model-features.ensures.kept c.args.class.now c.args.method.now c.args.within c.firsts.new.circuit found.items c.as_slice.result.now is of)
     c.firsts.ensures.first

@@ -1,5 +1,5 @@
 -- The types of fields that a variant's look-up finds.
-use Rattle.std.proofs.Common.{◌≡◌, ℕ, List, map, Bor, Option, option_map, refl, sym, true, ◌∙◌, ap}
+use Rattle.std.proofs.Common.{◌≡◌, ℕ, List, map, Bor, option_map, refl, sym, true, ◌∙◌, ap}
 use Rattle.std.specs.List.{filter}
 use Rattle.std.specs.Str.{bytes_eq}
 use Rattle.cfj_logic.specs.Selections.{Chosen}

@@ -1,6 +1,5 @@
 -- The marks along a chain are of the project's features.
-use Rattle.std.proofs.Common.{◌≡◌, ℕ, zero, suc, ◌<◌, ◌≤◌, ◌^◌, ◌==◌, max, nat_lt, Bool, true, false, not, ◌&&◌, List, [], ◌∷◌, ◌++◌, length, map, All, Bor, get_or, bit_and, bit_or, IsTrue, Option, None, Some, refl, sym, ◌∙◌, ap, subst, arith}
-use Rattle.std.specs.Int.{bit_at}
+use Rattle.std.proofs.Common.{◌≡◌, ℕ, zero, suc, ◌<◌, ◌^◌, ◌==◌, nat_lt, true, not, ◌&&◌, List, [], ◌∷◌, length, map, All, Bor, get_or, bit_and, bit_or, refl, arith}
 use Rattle.std.specs.List.{filter, list_all}
 use Rattle.std.specs.Prelude.{⊤}
 use Rattle.std.specs.Str.{bytes_eq}
@@ -8,8 +7,8 @@ use Rattle.std.proofs.lemmas.Bool.{and_from, and_parts, ltb-true, lt-ltb}
 use Rattle.std.proofs.lemmas.Nat.{or_lt, pow_pos}
 use Rattle.std.proofs.lemmas.List.Elements.{All-append, All-map, All-nil}
 use Rattle.cfj_logic.specs.Sides.{Sides, is_over}
-use Rattle.cfj_model.specs.Coloring.{Palette, are_known, no_colors, palette_of, union}
-use Rattle.cfj_model.specs.LookUps.{Table, chain, declared}
+use Rattle.cfj_model.specs.Coloring.{Palette, are_known, no_colors, palette_of}
+use Rattle.cfj_model.specs.LookUps.{chain}
 use Rattle.cfj_model.specs.ProductLines.{IsProject, ProductLine, are_distinct, are_fields, are_methods, are_params, is_body, is_class, is_ctor, is_field, is_method, most_params, object}
 use Rattle.cfj_model.specs.Projection.{presence_of}
 use Rattle.cfj_model.specs.declared.class.Class.{Class}

@@ -1,12 +1,12 @@
 -- Marks hold where the marks of each feature do.
-use Rattle.std.proofs.Common.{◌≡◌, ℕ, zero, suc, ◌+◌, ◌<◌, ◌≤◌, ◌^◌, ◌==◌, min, max, nat_lt, Bool, true, false, not, ◌&&◌, ◌||◌, bit_and, bit_or, length, refl, sym, ◌∙◌, ap, ap₂, arith, add-one}
+use Rattle.std.proofs.Common.{◌≡◌, ℕ, zero, suc, ◌+◌, ◌<◌, ◌≤◌, ◌^◌, ◌==◌, min, nat_lt, Bool, true, false, not, ◌&&◌, ◌||◌, bit_and, length, refl, sym, ◌∙◌, ap, ap₂, arith, add-one}
 use Rattle.std.specs.Int.{bit_at}
 use Rattle.std.proofs.lemmas.Bool.{and_from, and_parts, eq-eqb, eqb-true, ltb-false, ltb-true}
-use Rattle.std.proofs.lemmas.Nat.Bits.{bit_at-lt, bit_at-zero, bit_at_above, bit_at_and, bit_at_or, same_from_bits}
+use Rattle.std.proofs.lemmas.Nat.Bits.{bit_at-lt, bit_at-zero, bit_at_above, bit_at_and, same_from_bits}
 use Rattle.cfj_logic.specs.Selections.{Chosen, has_bit, is_on, is_subset}
 use Rattle.cfj_logic.specs.Sides.{Sides, is_over}
 use Rattle.cfj_model.specs.Coloring.{has_mark, union}
-use Rattle.cfj_model.specs.Projection.{is_present, presence_of}
+use Rattle.cfj_model.specs.Projection.{is_present}
 use Rattle.feature_views.proofs.Presence.{present_inside}
 use Rattle.cond_circuit.proofs.ValueLemmas.{Grown-value}
 use Rattle.cond_circuit.specs.Gates.{Gates, Grown, Is, value}

@@ -1,10 +1,9 @@
-use Rattle.std.proofs.Common.{◌≡◌, ◌+◌, ◌<◌, rules, arith, false, length, sym, subst, true}
+use Rattle.std.proofs.Common.{◌+◌, ◌<◌, rules, false, length, sym, subst, true}
 use Rattle.cond_circuit.proofs.ValueLemmas.{Grown-trans, Is-grown}
 use Rattle.cond_circuit.specs.Gates.{Is}
 use Rattle.guarded_seq.specs.Sequences.{AreInside}
-use Rattle.guarded_seq.specs.declared.guarded.Guarded.{Guarded}
 use Rattle.guarded_types.specs.Within.{IsOfFirst}
-use Rattle.guarded_types.proofs.FirstItems.{first_all, first_more_is, first_settled, inside_more, taken_more}
+use Rattle.guarded_types.proofs.FirstItems.{first_more_is, first_settled, inside_more, taken_more}
 use Rattle.std.proofs.Common.{take}
 use Rattle.guarded_types.proofs.firsts.firsts.Goals as goal
 

@@ -1,4 +1,4 @@
-use Rattle.std.proofs.Common.{◌≡◌, ℕ, arith, sym, ◌∙◌, ap, subst, true, false}
+use Rattle.std.proofs.Common.{◌≡◌, arith, sym, ◌∙◌, ap, subst, true, false}
 use Rattle.cfj_logic.specs.Sides.{is_over}
 use Rattle.cfj_model.specs.Coloring.{has_mark}
 use Rattle.cond_circuit.proofs.ValueLemmas.{Grown-refl, Grown-trans}

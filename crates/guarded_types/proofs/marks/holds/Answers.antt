@@ -1,4 +1,4 @@
-use Rattle.std.proofs.Common.{◌≡◌, sym, ◌∙◌, rules, true}
+use Rattle.std.proofs.Common.{◌≡◌, sym, rules, true}
 use Rattle.cfj_model.specs.Coloring.{union}
 use Rattle.guarded_types.proofs.MarkGates.{among_hold, is_within}
 use Rattle.cfj_model.specs.Projection.{is_present}

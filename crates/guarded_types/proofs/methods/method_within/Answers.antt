@@ -1,4 +1,4 @@
-use Rattle.std.proofs.Common.{◌≡◌, ◌∙◌, ap, sym, subst, length, Bor, List, ℕ, All, true}
+use Rattle.std.proofs.Common.{◌≡◌, ◌∙◌, ap, sym, subst, length, All, true}
 use Rattle.std.proofs.lemmas.Result.{IfOk-weaker}
 use Rattle.cfj_logic.specs.Sides.{is_over}
 use Rattle.cfj_model.specs.Coloring.{no_colors}

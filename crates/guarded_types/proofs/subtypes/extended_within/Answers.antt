@@ -2,7 +2,6 @@ use Rattle.std.proofs.Common.{◌≡◌, ◌+◌, ◌&&◌, ◌||◌, ap, drop, 
 use Rattle.std.specs.Str.{bytes_eq}
 use Rattle.cfj_logic.specs.Sides.{is_over}
 use Rattle.cfj_model.specs.LookUps.{Table, chain}
-use Rattle.class_table.specs.ByName.{seen}
 use Rattle.cond_circuit.proofs.ValueLemmas.{Grown-refl, Grown-trans}
 use Rattle.cond_circuit.specs.Gates.{value}
 use Rattle.cfj_model.specs.Projection.{is_present}
@@ -37,13 +36,13 @@ each-preserved c = record {
   grown = Grown-trans c.args.circuit.now c.each.circuit c.with_class.new.circuit c.each.invariant.grown c.with_class.ensures.grown;
   inside = c.in_ok-found.ensures.worth.inside;
   over =
-    subst (λ m. is_over c.args.circuit.now.features m ≡ true) (sym c.union-up.ensures)
-    (up_over c.args.project.now c.model-features.ensures.kept c.args.circuit.now.features c.requires.features c.args.lower.now c.chain-chain.result.now
-    (c.chain-chain.ensures ∙ ap (λ (t : Table). chain t c.args.lower.now) c.requires.table) c.each.place c.index-chain-place.result c.each-test.true c.index-chain-place.is c.each.up c.each.invariant.over);
+      subst (λ m. is_over c.args.circuit.now.features m ≡ true) (sym c.union-up.ensures)
+      (up_over c.args.project.now c.model-features.ensures.kept c.args.circuit.now.features c.requires.features c.args.lower.now c.chain-chain.result.now
+      (c.chain-chain.ensures ∙ ap (λ (t : Table). chain t c.args.lower.now) c.requires.table) c.each.place c.index-chain-place.result c.each-test.true c.index-chain-place.is c.each.up c.each.invariant.over);
   reaching =
-    subst (λ m. IsReaching c.with_class.new.circuit c.args.within c.in_ok-found.found c.args.upper.now m (drop (c.each.place + 1) c.chain-chain.result.now) c.chain-chain.result.now) (sym c.union-up.ensures)
-    (reached_more c.each.circuit c.args.within c.each.found c.args.upper.now c.each.up c.chain-chain.result.now c.each.place c.index-chain-place.result c.each-test.true c.index-chain-place.is c.each.invariant.reaching
-    c.with_class.new.circuit c.in_ok-found.found
-    (subst (λ m. IsWithin c.with_class.new.circuit c.args.within c.in_ok-found.found (λ s. value s c.each.circuit.parts c.each.found || (bytes_eq c.index-chain-place.result.now.parent c.args.upper.now && is_present s m)))
-    c.union-up.ensures c.in_ok-found.ensures.worth));
+      subst (λ m. IsReaching c.with_class.new.circuit c.args.within c.in_ok-found.found c.args.upper.now m (drop (c.each.place + 1) c.chain-chain.result.now) c.chain-chain.result.now) (sym c.union-up.ensures)
+      (reached_more c.each.circuit c.args.within c.each.found c.args.upper.now c.each.up c.chain-chain.result.now c.each.place c.index-chain-place.result c.each-test.true c.index-chain-place.is c.each.invariant.reaching
+      c.with_class.new.circuit c.in_ok-found.found
+      (subst (λ m. IsWithin c.with_class.new.circuit c.args.within c.in_ok-found.found (λ s. value s c.each.circuit.parts c.each.found || (bytes_eq c.index-chain-place.result.now.parent c.args.upper.now && is_present s m)))
+      c.union-up.ensures c.in_ok-found.ensures.worth));
 }

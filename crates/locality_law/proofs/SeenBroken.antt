@@ -60,7 +60,7 @@ less_unwanted around own on e = eq-eqb (bit_and around on) 0 (same_from_bits (bi
         omega arith
 
 -- what stands in something absent is absent
-absent_inside : (s : Chosen) (around own : Sides) → is_present s around ≡ false → is_present s (presence_of around own) ≡ false
+pub absent_inside : (s : Chosen) (around own : Sides) → is_present s around ≡ false → is_present s (presence_of around own) ≡ false
 absent_inside s around own absent = go (is_present s (presence_of around own)) refl
   where
     go : (b : Bool) → is_present s (presence_of around own) ≡ b → b ≡ false

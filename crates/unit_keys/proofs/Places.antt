@@ -1,8 +1,6 @@
 -- The classes and the methods that are found, by their places.
-use Rattle.std.proofs.Common.{◌≡◌, ℕ, zero, suc, ◌<◌, Bool, true, false, cond, List, [], ◌∷◌, length, map, filter, slice_get, nat_lt, Option, None, Some, option_map, option_and_then, refl, sym, subst, ◌∙◌, ap, ltb-true, arith}
+use Rattle.std.proofs.Common.{◌≡◌, ℕ, zero, suc, ◌<◌, Bool, true, false, cond, List, [], ◌∷◌, length, map, filter, slice_get, nat_lt, Option, None, Some, option_map, refl, sym, subst, ◌∙◌, ap, ltb-true, arith}
 use Rattle.std.specs.List.{find, position, position_or_len}
-use Rattle.std.specs.Option.{option_copied}
-use Rattle.std.specs.Borrow.{Bor}
 use Rattle.std.specs.Str.{bytes_eq}
 use Rattle.std.proofs.lemmas.Bool.{lt-ltb}
 use Rattle.std.proofs.lemmas.List.Folds.{find_at}
@@ -14,7 +12,7 @@ use Rattle.cfj_model.specs.declared.class.Method.{Method}
 use Rattle.cfj_words.specs.Lists.{Has}
 use Rattle.class_table.proofs.Members.{find_has, find_none, has_filter, has_map, has_none, name_is, not_true, unlike}
 use Rattle.locality_law.proofs.Methods.{method_found}
-use Rattle.unit_facts.specs.Facts.{Contents, Signature, absent, head_is, head_at, head_of, if_any, if_some, method_at, method_is, own_at, signature_of, signatures_are, signatures_at, signatures_in, signatures_of}
+use Rattle.unit_facts.specs.Facts.{Signature, absent, if_any, if_some, method_is, signature_of, signatures_are, signatures_of}
 use Rattle.unit_facts.specs.Units.{is_declaration, placed_method}
 use Rattle.unit_keys.specs.Parts.{at_place}
 

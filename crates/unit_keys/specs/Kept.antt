@@ -1,5 +1,5 @@
 -- What the type of judgements keeps.
-use Rattle.std.specs.Prelude.{◌≡◌, Bool, true, false, List, Option, is_some}
+use Rattle.std.specs.Prelude.{◌≡◌, Bool, true, false, List, is_some}
 use Rattle.cfj_model.specs.declared.feature_model.FeatureModel.{FeatureModel}
 use Rattle.cfj_words.specs.Lists.{Has}
 use Rattle.unit_facts.specs.Facts.{Contents, model_is}

@@ -1,4 +1,4 @@
-use Rattle.std.proofs.Common.{◌≡◌, Some, None, option_and_then, option_map, sym, ◌∙◌, ap}
+use Rattle.std.proofs.Common.{option_and_then, option_map, sym, ◌∙◌, ap}
 use Rattle.std.specs.List.{position}
 use Rattle.cfj_model.specs.Members.{Placed}
 use Rattle.cfj_model.specs.declared.class.Class.{Class}

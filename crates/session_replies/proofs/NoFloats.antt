@@ -2,7 +2,6 @@
 use Rattle.std.proofs.Common.{◌≡◌, ℕ, List, [], ◌∷◌, false, refl, codes}
 use Rattle.edit_replies.specs.declared.edit_reply.EditReply.{EditReply}
 use Rattle.edit_replies.specs.declared.edit_reply.EditReply.TheVariants.{Accepted, Refused}
-use Rattle.edit_replies.specs.declared.edit_reply.Reason.{Reason}
 use Rattle.edit_replies.specs.declared.edit_reply.Reason.TheVariants as reason
 use Rattle.serde_json.specs.Data.{object}
 use Rattle.serde_json.specs.Written.{has_float, items_have_float}

@@ -1,5 +1,5 @@
 -- What is written for an edit is the request that asks for it.
-use Rattle.std.proofs.Common.{◌≡◌, ℕ, ◌<◌, ◌^◌, refl}
+use Rattle.std.proofs.Common.{ℕ, ◌<◌, ◌^◌, refl}
 use Rattle.cfj_model.specs.declared.edit.Edit.{Edit}
 use Rattle.cfj_model.specs.declared.edit.Edit.TheVariants as edit
 use Rattle.session_requests.specs.Requests.{IsRequest}

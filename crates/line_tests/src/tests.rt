@@ -3,4 +3,5 @@
 mod changed_requests;
 mod json;
 mod reading;
+mod replies;
 mod requests;

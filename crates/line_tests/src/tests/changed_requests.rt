@@ -102,7 +102,7 @@ const GOOD: [&str; 16] = [
 ];
 
 /// What a byte is changed to; the last stands for no byte.
-const CHANGES: [u8; 8] = *b"1.-a\"~ \0";
+const CHANGES: [u8; 10] = *b"1.-a!}\"~ \0";
 
 fn is_identifier(alloc: Global, text: &str) -> Result<bool, AllocError> {
     Ok(text != "this" && Name::of(alloc, text)?.is_some())

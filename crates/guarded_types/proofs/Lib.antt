@@ -1,6 +1,7 @@
 pub mod FieldTypes
 pub mod FirstDeclared
 pub mod FirstItems
+pub mod FrontParts
 pub mod KnownMarks
 pub mod MarkGates
 pub mod MethodDeclarations

@@ -25,10 +25,12 @@ mod firsts;
 mod marked;
 mod marks;
 mod methods;
+mod parts;
 mod subtypes;
 
 pub use fields::field_within;
 pub use marked::Marked;
 pub use marks::holds;
 pub use methods::{Declaration, method_within};
+pub use parts::parts_within;
 pub use subtypes::{extended_within, known_within, subtype_within};

@@ -1,3 +1,4 @@
+pub mod AllFields
 pub mod FieldTypes
 pub mod FirstDeclared
 pub mod FirstItems

@@ -20,6 +20,7 @@
 //! reaches. `proofs/MarkGates.antt` is of marks as gates.
 #![tactic(auto)]
 
+mod all_fields;
 mod fields;
 mod firsts;
 mod marked;

@@ -50,3 +50,55 @@ fn push_own<'a>(
     }
     Ok(())
 }
+
+/// The fields of the classes of a chain, the last class's first, each with its gate, by who stands within marks that have those of all
+/// these classes.
+fn fields_of_chain<'a>(
+    alloc: Global,
+    circuit: &mut Circuit,
+    within: Colors,
+    chain: &[&'a Class],
+) -> Result<Vec<Guarded<&'a Field>>, AllocError>
+    requires { All (λ k. AreFieldsOver circuit.old.features k.now.fields) chain.now }
+    ensures grown { Grown circuit.old circuit.new }
+    ensures inside { IfOk result (λ found. AreInside circuit.new found.items) }
+    ensures fields { IfOk result (λ found. (s : Chosen) → is_present s within ≡ true → map (λ f. f.now) (present (value s circuit.new.parts) found.items)
+        ≡ own_fields s (seen chain.now)) }
+{
+    let mut found: Vec<Guarded<&'a Field>> = Vec::new(alloc);
+    let count = chain.len();
+    'each: for step in 0..count {
+        let class = chain[count - 1 - step];
+        push_own(circuit, within, class.fields.slice(), &mut found)?;
+    }
+    Ok(found)
+}
+
+/// All fields of a class, those of the classes above it first, in the variants whose chain of the class has so many classes, each with
+/// its gate, by who stands within these marks. In other variants the gates say nothing.
+///
+/// # Errors
+///
+/// There is no memory for them, or for a gate.
+pub fn all_fields_within<'a>(
+    alloc: Global,
+    project: &'a Project,
+    table: &ClassTable<'a>,
+    circuit: &mut Circuit,
+    within: Colors,
+    class: &Name,
+    part: usize,
+) -> Result<Vec<Guarded<&'a Field>>, AllocError>
+    requires table { table.now ≡ project.now.classes }
+    requires features { circuit.old.features ≡ length project.now.model.features }
+    requires part { part ≤ length (chain project.now.classes class.now) }
+    ensures grown { Grown circuit.old circuit.new }
+    ensures inside { IfOk result (λ found. AreInside circuit.new found.items) }
+    ensures fields { IfOk result (λ found. (s : Chosen) → is_present s within ≡ true → length (chain (projected s project.now).classes class.now) ≡ part
+        → map (λ f. bare_field f.now) (present (value s circuit.new.parts) found.items) ≡ all_fields (projected s project.now).classes class.now) }
+{
+    let _features = project.model();
+    let (front, _rest) = table.chain(class).split_at(part);
+    let within = within.union(marks_of(front));
+    fields_of_chain(alloc, circuit, within, front)
+}

@@ -29,6 +29,7 @@ mod methods;
 mod parts;
 mod subtypes;
 
+pub use all_fields::all_fields_within;
 pub use fields::field_within;
 pub use marked::Marked;
 pub use marks::holds;

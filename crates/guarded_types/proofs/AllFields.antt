@@ -1,5 +1,5 @@
 -- Fields of a chain, one more at a time, and all that a variant's class has.
-use Rattle.std.proofs.Common.{◌≡◌, ℕ, zero, suc, ◌+◌, ◌-◌, ◌<◌, ◌≤◌, Bool, true, false, cond, List, [], ◌∷◌, ◌++◌, length, map, take, drop, get_or, All, Bor, refl, sym, ◌∙◌, ap, ap₂, arith, add-one, subst}
+use Rattle.std.proofs.Common.{◌≡◌, ℕ, zero, suc, ◌+◌, ◌<◌, ◌≤◌, Bool, true, false, cond, List, [], ◌∷◌, ◌++◌, length, map, take, drop, get_or, All, Bor, refl, sym, ◌∙◌, ap, ap₂, arith, add-one, subst}
 use Rattle.std.specs.List.{filter}
 use Rattle.std.proofs.lemmas.List.{append_assoc, length-map, map-append, take_more}
 use Rattle.std.proofs.lemmas.List.Elements.{All-append, filter-append}

@@ -1,5 +1,5 @@
 -- How many classes of a chain are there, one class further.
-use Rattle.std.proofs.Common.{◌≡◌, ℕ, zero, suc, ◌+◌, ◌<◌, ◌≤◌, Bool, true, false, not, ◌&&◌, cond, List, [], ◌∷◌, ◌++◌, length, map, drop, get_or, Bor, refl, sym, ◌∙◌, ap, ap₂, arith, subst}
+use Rattle.std.proofs.Common.{◌≡◌, ℕ, suc, ◌+◌, ◌<◌, ◌≤◌, Bool, true, false, not, ◌&&◌, cond, List, [], ◌∷◌, ◌++◌, length, drop, get_or, Bor, refl, sym, ◌∙◌, ap, ap₂, arith, subst}
 use Rattle.std.proofs.lemmas.List.{length-map}
 use Rattle.std.proofs.lemmas.List.Elements.{All-append}
 use Rattle.cfj_logic.specs.Selections.{Chosen}
@@ -37,10 +37,10 @@ counted_more : (s : Chosen) (up : Sides) (i : ℕ) (k : Class) (rest whole : Lis
     → IsCounted s (presence_of up k.colors) (i + 1) rest whole (found ++ cond (is_present s up && not (is_present s (presence_of up k.colors))) (i ∷ []) [])
 counted_more s up i k rest whole found before = record {
   found_is =
-    ap (λ xs. xs ++ cond (is_present s up && not (is_present s (presence_of up k.colors))) (i ∷ []) []) before.found_is
-    ∙ ap (λ b. cond (is_present s up) [] (n ∷ []) ++ cond (is_present s up && not b) (i ∷ []) []) (union_present s up k.colors)
-    ∙ here (is_present s up) refl (is_present s k.colors) refl
-    ∙ sym (ap (λ b. cond b [] (n ∷ [])) (union_present s up k.colors));
+      ap (λ xs. xs ++ cond (is_present s up && not (is_present s (presence_of up k.colors))) (i ∷ []) []) before.found_is
+      ∙ ap (λ b. cond (is_present s up) [] (n ∷ []) ++ cond (is_present s up && not b) (i ∷ []) []) (union_present s up k.colors)
+      ∙ here (is_present s up) refl (is_present s k.colors) refl
+      ∙ sym (ap (λ b. cond b [] (n ∷ [])) (union_present s up k.colors));
   count = λ e. there (is_present s up) refl (is_present s k.colors) refl (sym (union_present s up k.colors) ∙ e);
 }
   where
@@ -100,9 +100,9 @@ module _ (c d e f : Gates) (w up : Sides) (ks : List (Bor Class)) (i : ℕ) (k :
   part_counted found inside never before s within =
       let grown : Grown c f = Grown-trans c e f (Grown-trans c d e first_grown second_grown) third_grown in
       let told : present (value s f.parts) (found ++ pushed here i) ≡ present (value s c.parts) found ++ cond (is_present s up && not (is_present s (presence_of up k.now.colors))) (i ∷ []) [] =
-          present_append (value s f.parts) found (pushed here i)
-          ∙ ap₂ (λ a b. a ++ b) (present_grown c f s grown found inside)
-          (present_pushed f s here i (Is-grown c f 0 (λ s. false) grown never) ∙ ap (λ b. cond b (i ∷ []) []) (here_is s within)) in
+      present_append (value s f.parts) found (pushed here i)
+      ∙ ap₂ (λ a b. a ++ b) (present_grown c f s grown found inside)
+      (present_pushed f s here i (Is-grown c f 0 (λ s. false) grown never) ∙ ap (λ b. cond b (i ∷ []) []) (here_is s within)) in
       let ks_are : seen (drop i ks) ≡ k.now ∷ seen (drop (i + 1) ks) = ap seen (drop_here ks i k lt at) in
       subst (λ xs. IsCounted s (presence_of up k.now.colors) (i + 1) (seen (drop (i + 1) ks)) (seen ks) xs) (sym told)
       (counted_more s up i k.now (seen (drop (i + 1) ks)) (seen ks) (present (value s c.parts) found) (subst (λ xs. IsCounted s up i xs (seen ks) (present (value s c.parts) found)) ks_are (before s within)))

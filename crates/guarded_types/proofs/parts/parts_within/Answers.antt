@@ -40,7 +40,7 @@ each-preserved c =
     let k = c.index-chain-place.result in
     let ks = c.chain-chain.result.now in
     let next_is : IsWithin d c.args.within c.in_ok-next.next (λ s. is_present s (presence_of c.each.up k.now.colors)) =
-        subst (λ m. IsWithin d c.args.within c.in_ok-next.next (λ s. is_present s m)) c.union-up.ensures next in
+    subst (λ m. IsWithin d c.args.within c.in_ok-next.next (λ s. is_present s m)) c.union-up.ensures next in
     record {
       grown = Grown-trans c.args.circuit.now c.each.circuit f c.each.invariant.grown grown;
       inside = subst (λ xs. AreInside f xs) (sym c.in_ok-push.ensures)

@@ -1,3 +1,4 @@
+-- No public contract cites this: it serves the proofs.
 -- The fields of the classes of a chain, by their own marks.
 use Rattle.std.specs.Prelude.{◌≡◌, ℕ, true, List, [], ◌∷◌, ◌++◌, All, filter}
 use Rattle.cfj_logic.specs.Selections.{Chosen}

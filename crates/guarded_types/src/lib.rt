@@ -2,8 +2,8 @@
 //!
 //! A look-up in one variant finds something or nothing. Here it finds what the variants find, each with a gate that is true under the
 //! selections in whose variants it is found: whether a name is known, whether a class is below another, the type of a field, the
-//! declaration of a method, how many classes a chain has and which fields they have. Several declarations of a name, along a chain or in one class, are taken in the order in which a variant
-//! looks, and each counts where none before it is there.
+//! declaration of a method, how many classes a chain has and which fields they have. Several declarations of a name, along a chain or
+//! in one class, are taken in the order in which a variant looks, and each counts where none before it is there.
 //!
 //! # By who asks
 //!

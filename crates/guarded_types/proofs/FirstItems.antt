@@ -57,7 +57,7 @@ module _ (c d e f g : Gates) (w m : Sides) (taken there_gate free here or_gate :
 
 -- ---- what remains
 
-present_append : {T : Type 0} (on : ℕ → Bool) (xs ys : List (Guarded T)) → present on (xs ++ ys) ≡ present on xs ++ present on ys
+pub present_append : {T : Type 0} (on : ℕ → Bool) (xs ys : List (Guarded T)) → present on (xs ++ ys) ≡ present on xs ++ present on ys
 present_append {T} on xs ys =
     ap (map (λ (g : Guarded T). g.item)) (filter-append (λ (g : Guarded T). on g.gate) xs ys)
     ∙ map-append (λ (g : Guarded T). g.item) (filter (λ (g : Guarded T). on g.gate) xs) (filter (λ (g : Guarded T). on g.gate) ys)
@@ -82,7 +82,7 @@ present_grown {T} old new s grown (x ∷ xs) inside =
     go false e = e
 
 -- an item under its gate
-present_pushed : {T : Type 0} (c : Gates) (s : Chosen) (g : ℕ) (x : T) → Is c 0 (λ s. false) → present (value s c.parts) (pushed g x) ≡ cond (value s c.parts g) (x ∷ []) []
+pub present_pushed : {T : Type 0} (c : Gates) (s : Chosen) (g : ℕ) (x : T) → Is c 0 (λ s. false) → present (value s c.parts) (pushed g x) ≡ cond (value s c.parts g) (x ∷ []) []
 present_pushed {T} c s g x never = go (g == 0) refl
   where
     one : Guarded T
@@ -96,7 +96,7 @@ present_pushed {T} c s g x never = go (g == 0) refl
     go true e = sym (ap (λ b. cond b (x ∷ []) []) (ap (value s c.parts) (eqb-true g 0 e) ∙ never.worth s))
     go false e = alone (value s c.parts g)
 
-inside_pushed : {T : Type 0} (c : Gates) (g : ℕ) (x : T) → g < length c.parts → AreInside c (pushed g x)
+pub inside_pushed : {T : Type 0} (c : Gates) (g : ℕ) (x : T) → g < length c.parts → AreInside c (pushed g x)
 inside_pushed {T} c g x below = go (g == 0)
   where
     one : Guarded T

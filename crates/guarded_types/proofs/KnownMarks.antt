@@ -106,15 +106,15 @@ module _ {A : Type 0} (n : ℕ) where
   read_over (x ∷ xs) all zero d lt = all 0 (record { marks = d.marks; item = d.item.now }) (omega arith)
   read_over (x ∷ xs) all (suc k) d lt = read_over xs (λ j e below. all (suc j) e (omega (arith, below))) k d (omega (arith, lt))
 
+-- what stands at a place of a list is in it
+pub has_at : {A : Type 0} (xs : List A) (k : ℕ) (d : A) → k < length xs → Has xs (get_or xs k d)
+has_at [] k d lt = absurd (omega (arith, lt))
+has_at (x ∷ xs) zero d lt = (0, refl)
+has_at (x ∷ xs) (suc k) d lt = has_rest x xs (get_or xs k d) (has_at xs k d (omega (arith, lt)))
+
 -- items of a list that each are over the features
-pub listed_over : {A B : Type 0} (n : ℕ) (make : A → Marked B) (xs : List A) → ((x : A) → Has xs x → IsOver n (make x).marks) → All (λ (x : Marked B). IsOver n x.marks) (map make xs)
-listed_over {A} {B} n make xs h =
-    All-map (λ (x : Marked B). IsOver n x.marks) make xs (λ k d lt. h (get_or xs k d) (has_at xs k d lt))
-  where
-    has_at : (xs : List A) (k : ℕ) (d : A) → k < length xs → Has xs (get_or xs k d)
-    has_at [] k d lt = absurd (omega (arith, lt))
-    has_at (x ∷ xs) zero d lt = (0, refl)
-    has_at (x ∷ xs) (suc k) d lt = has_rest x xs (get_or xs k d) (has_at xs k d (omega (arith, lt)))
+listed_over : {A B : Type 0} (n : ℕ) (make : A → Marked B) (xs : List A) → ((x : A) → Has xs x → IsOver n (make x).marks) → All (λ (x : Marked B). IsOver n x.marks) (map make xs)
+listed_over {A} {B} n make xs h = All-map (λ (x : Marked B). IsOver n x.marks) make xs (λ k d lt. h (get_or xs k d) (has_at xs k d lt))
 
 pub fields_over : (n : ℕ) (f : List ℕ) (k : Class) → IsMarkedOver n k → All (λ (x : Marked (List ℕ)). IsOver n x.marks) (typed_fields f k)
 fields_over n f k over =

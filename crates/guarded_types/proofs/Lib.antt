@@ -1,6 +1,8 @@
+pub mod AllFields
 pub mod FieldTypes
 pub mod FirstDeclared
 pub mod FirstItems
+pub mod FrontParts
 pub mod KnownMarks
 pub mod MarkGates
 pub mod MethodDeclarations

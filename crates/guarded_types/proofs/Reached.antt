@@ -103,7 +103,7 @@ extends_is s line project c d =
 
 -- ---- one class further
 
-drop_here : {A : Type 0} (xs : List A) (i : ℕ) (x : A) → i < length xs → x ≡ get_or xs i x → drop i xs ≡ x ∷ drop (i + 1) xs
+pub drop_here : {A : Type 0} (xs : List A) (i : ℕ) (x : A) → i < length xs → x ≡ get_or xs i x → drop i xs ≡ x ∷ drop (i + 1) xs
 drop_here {A} xs i x lt at = go xs i lt at ∙ ap (λ n. x ∷ drop n xs) (sym (add-one i))
   where
     go : (xs : List A) (i : ℕ) → i < length xs → x ≡ get_or xs i x → drop i xs ≡ x ∷ drop (suc i) xs
@@ -111,7 +111,7 @@ drop_here {A} xs i x lt at = go xs i lt at ∙ ap (λ n. x ∷ drop n xs) (sym (
     go (y ∷ ys) zero lt at = ap (λ z. z ∷ ys) (sym at)
     go (y ∷ ys) (suc i) lt at = go ys i (omega arith) at
 
-drop_end : {A : Type 0} (xs : List A) (i : ℕ) → length xs ≤ i → drop i xs ≡ []
+pub drop_end : {A : Type 0} (xs : List A) (i : ℕ) → length xs ≤ i → drop i xs ≡ []
 drop_end [] zero le = refl
 drop_end [] (suc i) le = refl
 drop_end (x ∷ xs) zero le = absurd (omega arith)

@@ -1,3 +1,4 @@
 pub mod Along
 pub mod Declarations
+pub mod Fields
 pub mod Within

@@ -45,7 +45,7 @@ fn turn_of(
 }
 
 /// Adds an item that is there where a gate is true, if it ever is.
-fn push<T: Copy>(found: &mut Vec<Guarded<T>>, gate: u64, item: T) -> Result<(), AllocError>
+pub fn push<T: Copy>(found: &mut Vec<Guarded<T>>, gate: u64, item: T) -> Result<(), AllocError>
     ensures { OnOk result (found.new.items ≡ found.old.items ++ pushed gate item) }
 {
     if gate != 0 {
